@@ -1,0 +1,10 @@
+pub mod ByteOrder
+pub mod Fixed
+pub mod Images
+pub mod KeyForms
+pub mod Keys
+pub mod Orders
+pub mod Plain
+pub mod Spelled
+pub mod Stores
+pub mod Texts

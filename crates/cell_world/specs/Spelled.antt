@@ -1,0 +1,131 @@
+-- Which values are cells.
+use Rattle.std.specs.Prelude.{◌≡◌, ℕ, ◌<◌, ◌≤◌, ◌^◌, Bool, true, false, ◌&&◌, ◌||◌, not, List, [], ◌∷◌, ◌++◌, length, Option, Some, None, IsTrue, is_some, is_none, option_to_list}
+use Rattle.std.specs.List.{list_all}
+use Rattle.cell_world.specs.Texts.{Text, is_name, is_location, is_key_form}
+use Rattle.cell_world.specs.Keys.{same}
+use Rattle.cell_world.specs.declared.spans.High.{High}
+use Rattle.cell_world.specs.declared.spans.High.TheVariants.{At, Max}
+use Rattle.cell_world.specs.declared.spans.Span.{Span}
+use Rattle.cell_world.specs.declared.spans.Span.TheVariants.{Range, Point}
+use Rattle.cell_world.specs.declared.cells.Token.{Token}
+use Rattle.cell_world.specs.declared.cells.Mark.{Mark}
+use Rattle.cell_world.specs.declared.cells.Mark.TheVariants as mark
+use Rattle.cell_world.specs.declared.cells.LocalRow.{LocalRow}
+use Rattle.cell_world.specs.declared.cells.RowName.{RowName}
+use Rattle.cell_world.specs.declared.cells.Counters.{Counters}
+use Rattle.cell_world.specs.declared.operations.Piece.{Piece}
+use Rattle.cell_world.specs.declared.operations.Pieces.{Pieces}
+use Rattle.cell_world.specs.declared.operations.Phase.{Phase}
+use Rattle.cell_world.specs.declared.operations.Phase.TheVariants as phase
+use Rattle.cell_world.specs.declared.operations.JobRow.{JobRow}
+use Rattle.cell_world.specs.declared.operations.Extra.{Extra}
+use Rattle.cell_world.specs.declared.operations.Extra.TheVariants as extra
+use Rattle.cell_world.specs.declared.operations.Op.{Op}
+use Rattle.cell_world.specs.declared.cells.Cell.{Cell}
+use Rattle.cell_world.specs.declared.cells.Cell.TheVariants as cell
+
+-- ---- what the types of the program don't keep by themselves
+
+-- the pieces in order
+abbrev pub listed : Pieces → List Piece
+listed pieces = option_to_list pieces.one ++ option_to_list pieces.two
+
+-- a second piece stands only beside a first
+abbrev pub has_first : Pieces → Bool
+has_first pieces = is_some pieces.one || is_none pieces.two
+
+-- The cell has a spelling: the layout of a log cell has one map for the operation and its pieces, and counts the pieces.
+abbrev pub is_spelled : Cell → Bool
+is_spelled (cell.Log op) = (has_first op.olds && has_first op.news) && list_all (λ (p : Piece). same op.map p.map) (listed op.olds ++ listed op.news)
+is_spelled other = true
+
+-- ---- what the types of the program keep: each text in its grammar, each number in its width
+
+abbrev pub IsEnd : High → Type 0
+IsEnd (At key) = IsTrue (is_key_form key)
+IsEnd Max = Unit {0}
+
+abbrev pub IsSpan : Span → Type 0
+IsSpan (Range low high) = IsTrue (is_key_form low) × IsEnd high
+IsSpan (Point at) = IsTrue (is_key_form at)
+
+abbrev pub IsToken : Option Token → Type 0
+IsToken None = Unit {0}
+IsToken (Some token) = token.0 < 2 ^ 128
+
+pub record IsPiece (p : Piece) : Type 0 where
+  pub map : IsTrue (is_name p.map)
+  pub span : IsSpan p.span
+  pub location : IsTrue (is_location p.location)
+  pub token : IsToken p.token
+
+abbrev pub ArePieces : Pieces → Type 0
+ArePieces pieces = IsOne pieces.one × IsOne pieces.two
+  where
+    IsOne : Option Piece → Type 0
+    IsOne None = Unit {0}
+    IsOne (Some p) = IsPiece p
+
+abbrev pub IsPhase : Phase → Type 0
+IsPhase phase.Idle = Unit {0}
+IsPhase (phase.Copying end) = IsEnd end
+IsPhase (phase.Moved end) = IsEnd end
+
+pub record IsJob (job : JobRow) : Type 0 where
+  pub number : job.number < 2 ^ 32
+  pub map : IsTrue (is_name job.map)
+  pub low : IsTrue (is_key_form job.low)
+  pub high : IsEnd job.high
+  pub source : IsTrue (is_location job.source)
+  pub target : IsTrue (is_location job.target)
+  pub batch : job.batch < 2 ^ 32
+  pub cursor : IsEnd job.cursor
+  pub phase : IsPhase job.phase
+
+abbrev pub IsExtra : Extra → Type 0
+IsExtra extra.None = Unit {0}
+IsExtra (extra.JobPut job) = IsJob job
+IsExtra (extra.JobDrop number) = number < 2 ^ 32
+
+pub record IsOp (op : Op) : Type 0 where
+  pub number : op.number < 2 ^ 64
+  pub map : IsTrue (is_name op.map)
+  pub hull : IsSpan op.hull
+  pub olds : ArePieces op.olds
+  pub news : ArePieces op.news
+  pub extra : IsExtra op.extra
+
+abbrev pub IsMarkValue : Mark → Type 0
+IsMarkValue mark.Plain = Unit {0}
+IsMarkValue (mark.Old number) = number < 2 ^ 64
+IsMarkValue mark.New = Unit {0}
+
+pub record IsLocalRow (row : LocalRow) : Type 0 where
+  pub map : IsTrue (is_name row.map)
+  pub span : IsSpan row.span
+  pub number : row.number < 2 ^ 64
+  pub mark : IsMarkValue row.mark
+
+pub record IsRowName (row : RowName) : Type 0 where
+  pub map : IsTrue (is_name row.map)
+  pub key : IsTrue (is_key_form row.key)
+  pub table : IsTrue (is_name row.table)
+  pub number : row.number < 2 ^ 64
+
+-- The value is one of the program's type `Cell`.
+abbrev pub IsTyped : Cell → Type 0
+IsTyped (cell.Map name kind type) = IsTrue (is_name name)
+IsTyped (cell.Shard name location) = IsTrue (is_name name) × IsTrue (is_location location)
+IsTyped (cell.Table name table) = IsTrue (is_name name) × IsTrue (is_name table)
+IsTyped (cell.Piece piece) = IsPiece piece
+IsTyped (cell.Log op) = IsOp op
+IsTyped (cell.Job job) = IsJob job
+IsTyped (cell.Counter counters) = (counters.operation < 2 ^ 64) × (counters.job < 2 ^ 32)
+IsTyped (cell.SiteState location state) = IsTrue (is_location location)
+IsTyped (cell.Local row) = IsLocalRow row
+IsTyped (cell.Row row bytes) = IsRowName row × (length bytes ≤ 1024)
+
+-- The value is a cell that can be spelled.
+pub record IsCell (c : Cell) : Type 0 where
+  pub typed : IsTyped c
+  pub spelled : IsTrue (is_spelled c)

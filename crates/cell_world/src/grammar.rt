@@ -1,0 +1,127 @@
+//! The grammars of names, locations and key texts.
+ghost use Rattle.std.specs.Prelude.{◌≡◌, ◌≤◌, length, IsTrue};
+ghost use Rattle.std.specs.List.{list_all, position};
+ghost use Rattle.cell_world.specs.Texts.{is_letter, is_digit, is_name_byte, is_name, is_part_byte, is_part, is_slash, is_location, is_key_text_byte, is_key_text};
+
+/// The longest name, in bytes.
+pub(crate) const NAME_BYTES: usize = 32;
+
+/// The longest server or database of a location, in bytes.
+pub(crate) const PART_BYTES: usize = 64;
+
+/// The longest key text, in bytes.
+pub(crate) const KEY_TEXT_BYTES: usize = 300;
+
+fn is_letter(byte: u8) -> bool
+    ensures { result ≡ is_letter byte }
+{
+    matches!(byte, b'A'..=b'Z' | b'a'..=b'z')
+}
+
+fn is_digit(byte: u8) -> bool
+    ensures { result ≡ is_digit byte }
+{
+    matches!(byte, b'0'..=b'9')
+}
+
+fn is_name_byte(byte: u8) -> bool
+    ensures { result ≡ is_name_byte byte }
+{
+    matches!(byte, b'A'..=b'Z' | b'a'..=b'z' | b'0'..=b'9' | b'_')
+}
+
+fn all_name_bytes(bytes: &[u8]) -> bool
+    ensures { result ≡ list_all is_name_byte bytes.now }
+{
+    bytes.iter().all(|byte| is_name_byte(*byte))
+}
+
+/// Whether the bytes are a name.
+pub(crate) fn is_name(bytes: &[u8]) -> bool
+    ensures value { result ≡ is_name bytes.now }
+    ensures fits { IsTrue result → length bytes.now ≤ 32 }
+{
+    match bytes {
+        [] => false,
+        [first, rest @ ..] => {
+            let letter = is_letter(*first);
+            let fits = rest.len() < NAME_BYTES;
+            let inner = all_name_bytes(rest);
+            letter && (fits && inner)
+        }
+    }
+}
+
+fn is_part_byte(byte: u8) -> bool
+    ensures { result ≡ is_part_byte byte }
+{
+    matches!(byte, b'A'..=b'Z' | b'a'..=b'z' | b'0'..=b'9' | b'_' | b'-' | b'.')
+}
+
+fn all_part_bytes(bytes: &[u8]) -> bool
+    ensures { result ≡ list_all is_part_byte bytes.now }
+{
+    bytes.iter().all(|byte| is_part_byte(*byte))
+}
+
+/// Whether the bytes are a server or a database.
+fn is_part(bytes: &[u8]) -> bool
+    ensures value { result ≡ is_part bytes.now }
+    ensures fits { IsTrue result → length bytes.now ≤ 64 }
+{
+    match bytes {
+        [] => false,
+        [first, rest @ ..] => {
+            let start = is_letter(*first);
+            let digit = is_digit(*first);
+            let fits = rest.len() < PART_BYTES;
+            let inner = all_part_bytes(rest);
+            (start || digit) && (fits && inner)
+        }
+    }
+}
+
+/// The place of the first `/`.
+fn slash_at(bytes: &[u8]) -> Option<usize>
+    ensures { result ≡ position is_slash bytes.now }
+{
+    bytes.iter().position(|byte| *byte == b'/')
+}
+
+/// Whether the bytes are a location.
+pub(crate) fn is_location(bytes: &[u8]) -> bool
+    ensures value { result ≡ is_location bytes.now }
+    ensures fits { IsTrue result → length bytes.now ≤ 129 }
+{
+    match slash_at(bytes) {
+        None => false,
+        Some(at) => {
+            let server = is_part(&bytes[..at]);
+            let database = is_part(&bytes[at + 1..]);
+            server && database
+        }
+    }
+}
+
+fn is_key_text_byte(byte: u8) -> bool
+    ensures { result ≡ is_key_text_byte byte }
+{
+    matches!(byte, b'!'..=b'~')
+}
+
+fn all_key_text_bytes(bytes: &[u8]) -> bool
+    ensures { result ≡ list_all is_key_text_byte bytes.now }
+{
+    bytes.iter().all(|byte| is_key_text_byte(*byte))
+}
+
+/// Whether the bytes are a key as it is written.
+pub(crate) fn is_key_text(bytes: &[u8]) -> bool
+    ensures value { result ≡ is_key_text bytes.now }
+    ensures fits { IsTrue result → length bytes.now ≤ 300 }
+{
+    let some = !bytes.is_empty();
+    let fits = bytes.len() <= KEY_TEXT_BYTES;
+    let inner = all_key_text_bytes(bytes);
+    some && (fits && inner)
+}

@@ -1,0 +1,119 @@
+//! Lists inside cells, commands and replies, which contracts see as lists.
+ghost use Rattle.std.specs.Prelude.{◌≡◌, ◌≤◌, ◌++◌, ◌∷◌, [], length, IfOk, OnOk, OnErr};
+ghost use Rattle.std.specs.Option.{SomeIff};
+
+use std::alloc::Global;
+use std::marker::Model;
+
+/// Want of memory.
+#[derive(Clone, Copy, Debug, PartialEq, Eq)]
+pub struct Memory;
+
+/// The most bytes of a row.
+pub const ROW_BYTES: usize = 1024;
+
+/// A list of values. Contracts see the list, and not its room.
+#[derive(Drop)]
+pub struct Items<T> {
+    items: Vec<T>,
+}
+
+impl<T> Model for Items<T> {
+    ghost use Rattle.std.specs.Prelude.{List};
+
+    ghost Value = { List T };
+
+    ghost view = { λ it. it.items.items };
+}
+
+impl<T> Items<T> {
+    /// The empty list. Takes no memory.
+    pub fn new(alloc: Global) -> Items<T>
+        ensures { result ≡ [] }
+    {
+        Items {
+            items: Vec::new(alloc),
+        }
+    }
+
+    /// Takes no memory.
+    pub fn from_vec(items: Vec<T>) -> Items<T>
+        ensures { result ≡ items.items }
+    {
+        Items { items }
+    }
+
+    /// Takes no memory.
+    pub fn into_vec(self) -> Vec<T>
+        ensures { result.items ≡ self }
+    {
+        let Items { items } = self;
+        items
+    }
+
+    /// Its values.
+    pub fn as_slice(&self) -> &[T]
+        ensures { result.now ≡ self.now }
+    {
+        self.items.as_slice()
+    }
+}
+
+impl<T: Drop> Items<T> {
+    /// Adds a value at the end. `Memory` leaves the list unchanged.
+    pub fn push(&mut self, item: T) -> Result<(), Memory>
+        ensures ok { OnOk result (self.new ≡ self.old ++ item ∷ []) }
+        ensures err { OnErr result (self.new ≡ self.old) }
+    {
+        if self.items.push(item).is_err() {
+            return Err(Memory);
+        }
+        Ok(())
+    }
+}
+
+/// The value of a row: at most 1,024 bytes. Contracts see its bytes.
+#[derive(Drop)]
+pub struct RowBytes {
+    items: Vec<u8>,
+}
+
+impl Model for RowBytes {
+    ghost use Rattle.std.specs.Prelude.{ℕ, List, length, ◌≤◌};
+
+    ghost Value = { List ℕ };
+
+    ghost view = { λ row. row.items.items };
+
+    ghost invariant = { λ row. length row.items.items ≤ 1024 };
+}
+
+impl RowBytes {
+    /// The row value with these bytes. `None` exactly past 1,024 bytes. Takes no memory.
+    pub fn from_vec(items: Vec<u8>) -> Option<RowBytes>
+        ensures { SomeIff result (length items.items ≤ 1024) items.items }
+    {
+        if items.len() > ROW_BYTES {
+            return None;
+        }
+        Some(RowBytes { items })
+    }
+
+    /// Its bytes.
+    pub fn as_slice(&self) -> &[u8]
+        ensures value { result.now ≡ self.now }
+        ensures short { length self.now ≤ 1024 }
+    {
+        self.items.as_slice()
+    }
+
+    /// The same bytes once more.
+    pub fn copied(&self, alloc: Global) -> Result<RowBytes, Memory>
+        ensures { IfOk result (λ copy. copy ≡ self.now) }
+    {
+        match Vec::from_slice(alloc, self.items.as_slice()) {
+            Ok(items) => Ok(RowBytes { items }),
+            Err(_) => Err(Memory),
+        }
+    }
+}

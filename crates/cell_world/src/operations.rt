@@ -1,0 +1,98 @@
+//! Mappings, the long operations that change them, and the jobs that move them.
+use crate::cells::{Status, Token};
+use crate::locations::Location;
+use crate::names::Name;
+use crate::norm_keys::NormKey;
+use crate::spans::{High, Span};
+
+/// A mapping: the location owns the keys of the span.
+#[derive(Clone, Copy, PartialEq, Eq)]
+pub struct Piece {
+    pub map: Name,
+    pub span: Span,
+    pub location: Location,
+    pub status: Status,
+    pub token: Option<Token>,
+}
+
+/// At most two mappings. Of two the lower is the first; there is a second one only beside a first.
+#[derive(Clone, Copy, PartialEq, Eq)]
+pub struct Pieces {
+    pub one: Option<Piece>,
+    pub two: Option<Piece>,
+}
+
+/// Where a job's batch from the cursor on stands.
+#[derive(Clone, Copy, PartialEq, Eq)]
+pub enum Phase {
+    /// No batch is under way.
+    Idle,
+    /// The rows from the cursor up to this end are copied to the target.
+    Copying(High),
+    /// They belong to the target, and are deleted at the source.
+    Moved(High),
+}
+
+/// A job that moves the keys of a range from one shard to another, batch by batch.
+#[derive(Clone, Copy, PartialEq, Eq)]
+pub struct JobRow {
+    pub number: u32,
+    pub map: Name,
+    /// The range to be moved.
+    pub low: NormKey,
+    pub high: High,
+    pub source: Location,
+    pub target: Location,
+    /// The most rows of one batch, from 1 to 100,000.
+    pub batch: u32,
+    /// What is below it is moved.
+    pub cursor: High,
+    pub phase: Phase,
+}
+
+/// What an operation does to a job as it commits.
+#[derive(Clone, Copy, PartialEq, Eq)]
+pub enum Extra {
+    None,
+    JobPut(JobRow),
+    JobDrop(u32),
+}
+
+/// A long operation: it replaces old mappings by new ones in several transactions.
+#[derive(Clone, Copy, PartialEq, Eq)]
+pub struct Op {
+    pub number: u64,
+    pub map: Name,
+    /// The least span over the old and the new mappings.
+    pub hull: Span,
+    pub olds: Pieces,
+    pub news: Pieces,
+    pub extra: Extra,
+}
+
+/// What a command touches, as far as operations under way must keep off it.
+#[derive(Clone, Copy, PartialEq, Eq)]
+pub enum Reach {
+    Nothing,
+    /// The keys of a span of a map.
+    Part(Name, Span),
+    /// A shard of a map.
+    Shard(Name, Location),
+    /// All of a site.
+    Whole(Location),
+}
+
+/// How far a long operation has come.
+#[derive(Clone, Copy, Debug, PartialEq, Eq)]
+pub enum StageName {
+    /// Its log row is put.
+    Logged,
+    /// The site of the old mappings has its marks.
+    SourceDone,
+    /// So has the other site of the new mappings.
+    TargetDone,
+    /// The new mappings have replaced the old ones, and the log row is gone.
+    Committed,
+    /// Its marks are gone.
+    Settled,
+}
