@@ -1,0 +1,98 @@
+-- Cell order, and what a world's calls find in a store.
+use Rattle.std.specs.Prelude.{◌≡◌, ◌⊎◌, ℕ, ◌≤◌, Bool, true, false, not, List, [], ◌∷◌, length, Option, Some, None, IsSome, IsTrue, if◌then◌else◌}
+use Rattle.std.specs.FinMap as map
+use Rattle.std.specs.Ordering.{is_lt, is_gt, nat_cmp, ordering_then}
+use Rattle.std.specs.Cmp.Lexicographic.{slice_cmp}
+use Rattle.std.specs.declared.cmp.Ordering.{Ordering}
+use Rattle.std.specs.declared.cmp.Ordering.TheVariants.{Less}
+use Rattle.cell_world.specs.Texts.{Text}
+use Rattle.cell_world.specs.ByteOrder.{byte_cmp}
+use Rattle.cell_world.specs.Lists.{IsOneOf}
+use Rattle.cell_world.specs.Keys.{below, at_most}
+use Rattle.cell_world.specs.Stores.{Store, Rows, key_of, Stands}
+use Rattle.cell_world.specs.declared.cells.Cell.{Cell}
+use Rattle.cell_world.specs.declared.cells.CellKey.{CellKey}
+use Rattle.cell_world.specs.declared.cells.CellKey.TheVariants as at
+
+-- ---- cell order
+
+abbrev pub kind_number : CellKey → ℕ
+kind_number (at.Map name) = 1
+kind_number (at.Shard name location) = 2
+kind_number (at.Table name table) = 3
+kind_number (at.Piece name low) = 4
+kind_number (at.Log number) = 5
+kind_number (at.Job number) = 6
+kind_number at.Counter = 7
+kind_number (at.SiteState location) = 8
+kind_number (at.Local name low number) = 9
+kind_number (at.Row row) = 10
+
+-- the key's fields in order; a number is a list of one
+abbrev pub fields_of : CellKey → List Text
+fields_of (at.Map name) = name ∷ []
+fields_of (at.Shard name location) = name ∷ location ∷ []
+fields_of (at.Table name table) = name ∷ table ∷ []
+fields_of (at.Piece name low) = name ∷ low ∷ []
+fields_of (at.Log number) = (number ∷ []) ∷ []
+fields_of (at.Job number) = (number ∷ []) ∷ []
+fields_of at.Counter = []
+fields_of (at.SiteState location) = location ∷ []
+fields_of (at.Local name low number) = name ∷ low ∷ (number ∷ []) ∷ []
+fields_of (at.Row row) = row.map ∷ row.key ∷ row.table ∷ (row.number ∷ []) ∷ []
+
+-- by kind, and then by the key's fields
+abbrev pub cell_cmp : CellKey → CellKey → Ordering
+cell_cmp a b = ordering_then (nat_cmp (kind_number a) (kind_number b)) (slice_cmp byte_cmp (fields_of a) (fields_of b))
+
+-- the map of a cell, for the kinds of which the first key field is one beside others
+abbrev pub map_of : CellKey → Option Text
+map_of (at.Shard name location) = Some name
+map_of (at.Table name table) = Some name
+map_of (at.Piece name low) = Some name
+map_of (at.Local name low number) = Some name
+map_of (at.Row row) = Some row.map
+map_of key = None
+
+-- ---- floor: the greatest cell of the same kind and map that is at or below the key
+
+pub record IsAtOrBelow (key : CellKey) (c : Cell) : Type 0 where
+  pub kind : kind_number (key_of c) ≡ kind_number key
+  pub map : map_of (key_of c) ≡ map_of key
+  pub order : is_gt (cell_cmp (key_of c) key) ≡ false
+
+abbrev pub IsFloor : Store → CellKey → Option Cell → Type 0
+IsFloor s key None = (c : Cell) → Stands s c → IsAtOrBelow key c → ⊥
+IsFloor s key (Some found) = Stands s found × IsAtOrBelow key found × ((c : Cell) → Stands s c → IsAtOrBelow key c → is_gt (cell_cmp (key_of c) (key_of found)) ≡ false)
+
+-- ---- scan: the first cells at or above the key of the same kind, of whatever map, in cell order
+
+pub record IsFromOn (key : CellKey) (c : Cell) : Type 0 where
+  pub kind : kind_number (key_of c) ≡ kind_number key
+  pub order : is_lt (cell_cmp (key_of c) key) ≡ false
+
+-- each is before the next
+abbrev pub Rises : List Cell → Type 0
+Rises [] = Unit {0}
+Rises (c ∷ []) = Unit {0}
+Rises (c ∷ d ∷ cs) = (cell_cmp (key_of c) (key_of d) ≡ Less) × Rises (d ∷ cs)
+
+-- the first `limit` of them, or all where there are fewer
+pub record IsScan (s : Store) (key : CellKey) (limit : ℕ) (found : List Cell) : Type 0 where
+  pub rises : Rises found
+  pub stand : (c : Cell) → IsOneOf found c → Stands s c × IsFromOn key c
+  pub at_most : length found ≤ limit
+  -- a cell that isn't among them comes after all of them, and there are `limit` of them
+  pub all : (c : Cell) → Stands s c → IsFromOn key c → IsOneOf found c ⊎ ((length found ≡ limit) × ((d : Cell) → IsOneOf found d → cell_cmp (key_of d) (key_of c) ≡ Less))
+
+-- ---- next_key: the least key with a row cell of the map that is at or above this one, or above it
+
+pub record IsRowKey (rows : Rows) (name from : Text) (past : Bool) (key : Text) : Type 0 where
+  pub table : Text
+  pub number : ℕ
+  pub stands : IsSome (map.get rows (record { map = name; key = key; table = table; number = number }))
+  pub above : IsTrue (if past then below from key else at_most from key)
+
+abbrev pub IsNextKey : Rows → Text → Text → Bool → Option Text → Type 0
+IsNextKey rows name from past None = (key : Text) → IsRowKey rows name from past key → ⊥
+IsNextKey rows name from past (Some found) = IsRowKey rows name from past found × ((key : Text) → IsRowKey rows name from past key → IsTrue (at_most found key))
