@@ -1,0 +1,54 @@
+//! How a run ended.
+use crate::history::History;
+use cell_world::locations::Location;
+
+/// Why a line of a script is faulty, in the order in which the reasons are looked for.
+#[derive(Clone, Copy, Debug, PartialEq, Eq)]
+pub enum Reason {
+    /// It has more than 4,096 bytes.
+    LongLine,
+    /// A byte is neither a tab nor from space to `~`.
+    BadByte,
+    /// Its first word is no command.
+    UnknownCommand,
+    /// It is a `session` line, in a program with one session.
+    SessionLine,
+    /// It has too few words or too many.
+    BadCount,
+    /// The word of this number, from 1 with the command, is the first that isn't in its grammar.
+    BadWord(u32),
+    /// Its command isn't built yet.
+    NotBuilt,
+}
+
+/// How a run ended.
+#[derive(Clone, Copy, PartialEq, Eq)]
+pub enum RunStatus {
+    /// The script was run to its end, and no command was refused.
+    Done,
+    /// The script was run to its end, and some reply was a refusal or `pending`.
+    Refused,
+    /// The words of the command line are in no grammar from this place on, counted from 1. Nothing was done.
+    BadWords(u32),
+    /// The first faulty line, counted from 1. Nothing was done.
+    BadScript(u32, Reason),
+    /// The script couldn't be read. Nothing was done.
+    ReadFault,
+    /// A reply couldn't be written. The run stopped there.
+    WriteFault,
+    /// The stores couldn't be opened, or some reply was `fault`.
+    StoreFault,
+    /// Want of memory.
+    Memory,
+    /// The script has more than 1,048,576 bytes. Nothing was done.
+    TooLong,
+    /// The stores name a location that the world doesn't know. Nothing was done.
+    UnknownLocation(Location),
+}
+
+/// How a run ended, and what was asked and answered in it.
+#[derive(Drop)]
+pub struct Finish {
+    pub status: RunStatus,
+    pub history: History,
+}

@@ -1,0 +1,8 @@
+//! The plain shard map: commands, replies and histories, what each command does to the plain state, and the lines that are written.
+#![tactic(auto)]
+
+pub mod commands;
+pub mod finish;
+pub mod history;
+pub mod plans;
+pub mod replies;
