@@ -1,1 +1,9 @@
+pub mod Caches
+pub mod Differing
 pub mod Entries
+pub mod KeyPrinting
+pub mod Lines
+pub mod Refusing
+pub mod Steps
+pub mod Summary
+pub mod Worded
