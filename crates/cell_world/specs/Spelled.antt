@@ -1,5 +1,5 @@
 -- Which values are cells.
-use Rattle.std.specs.Prelude.{◌≡◌, ℕ, ◌<◌, ◌≤◌, ◌^◌, Bool, true, false, ◌&&◌, ◌||◌, not, List, [], ◌∷◌, ◌++◌, length, Option, Some, None, IsTrue, is_some, is_none, option_to_list}
+use Rattle.std.specs.Prelude.{◌≡◌, ℕ, ◌<◌, ◌≤◌, ◌^◌, Bool, true, false, ◌&&◌, ◌||◌, not, List, [], ◌∷◌, ◌++◌, length, Option, IfSome, IsTrue, is_some, is_none, option_to_list}
 use Rattle.std.specs.List.{list_all}
 use Rattle.cell_world.specs.Texts.{Text, is_name, is_location, is_key_form}
 use Rattle.cell_world.specs.Keys.{same}
@@ -23,6 +23,10 @@ use Rattle.cell_world.specs.declared.operations.Extra.TheVariants as extra
 use Rattle.cell_world.specs.declared.operations.Op.{Op}
 use Rattle.cell_world.specs.declared.cells.Cell.{Cell}
 use Rattle.cell_world.specs.declared.cells.Cell.TheVariants as cell
+use Rattle.cell_world.specs.declared.cells.CellKey.{CellKey}
+use Rattle.cell_world.specs.declared.cells.CellKey.TheVariants as at
+use Rattle.cell_world.specs.declared.changes.Edit.{Edit}
+use Rattle.cell_world.specs.declared.changes.Edit.TheVariants.{Put, Delete}
 
 -- ---- what the types of the program don't keep by themselves
 
@@ -49,22 +53,17 @@ abbrev pub IsSpan : Span → Type 0
 IsSpan (Range low high) = IsTrue (is_key_form low) × IsEnd high
 IsSpan (Point at) = IsTrue (is_key_form at)
 
-abbrev pub IsToken : Option Token → Type 0
-IsToken None = Unit {0}
-IsToken (Some token) = token.0 < 2 ^ 128
+abbrev pub IsToken : Token → Type 0
+IsToken token = token.0 < 2 ^ 128
 
 pub record IsPiece (p : Piece) : Type 0 where
   pub map : IsTrue (is_name p.map)
   pub span : IsSpan p.span
   pub location : IsTrue (is_location p.location)
-  pub token : IsToken p.token
+  pub token : IfSome p.token IsToken
 
 abbrev pub ArePieces : Pieces → Type 0
-ArePieces pieces = IsOne pieces.one × IsOne pieces.two
-  where
-    IsOne : Option Piece → Type 0
-    IsOne None = Unit {0}
-    IsOne (Some p) = IsPiece p
+ArePieces pieces = IfSome pieces.one IsPiece × IfSome pieces.two IsPiece
 
 abbrev pub IsPhase : Phase → Type 0
 IsPhase phase.Idle = Unit {0}
@@ -106,6 +105,10 @@ pub record IsLocalRow (row : LocalRow) : Type 0 where
   pub number : row.number < 2 ^ 64
   pub mark : IsMarkValue row.mark
 
+pub record AreCounters (counters : Counters) : Type 0 where
+  pub operation : counters.operation < 2 ^ 64
+  pub job : counters.job < 2 ^ 32
+
 pub record IsRowName (row : RowName) : Type 0 where
   pub map : IsTrue (is_name row.map)
   pub key : IsTrue (is_key_form row.key)
@@ -120,7 +123,7 @@ IsTyped (cell.Table name table) = IsTrue (is_name name) × IsTrue (is_name table
 IsTyped (cell.Piece piece) = IsPiece piece
 IsTyped (cell.Log op) = IsOp op
 IsTyped (cell.Job job) = IsJob job
-IsTyped (cell.Counter counters) = (counters.operation < 2 ^ 64) × (counters.job < 2 ^ 32)
+IsTyped (cell.Counter counters) = AreCounters counters
 IsTyped (cell.SiteState location state) = IsTrue (is_location location)
 IsTyped (cell.Local row) = IsLocalRow row
 IsTyped (cell.Row row bytes) = IsRowName row × (length bytes ≤ 1024)
@@ -129,3 +132,27 @@ IsTyped (cell.Row row bytes) = IsRowName row × (length bytes ≤ 1024)
 pub record IsCell (c : Cell) : Type 0 where
   pub typed : IsTyped c
   pub spelled : IsTrue (is_spelled c)
+
+-- The value is one of the program's type `CellKey`.
+abbrev pub IsTypedKey : CellKey → Type 0
+IsTypedKey (at.Map name) = IsTrue (is_name name)
+IsTypedKey (at.Shard name location) = IsTrue (is_name name) × IsTrue (is_location location)
+IsTypedKey (at.Table name table) = IsTrue (is_name name) × IsTrue (is_name table)
+IsTypedKey (at.Piece name low) = IsTrue (is_name name) × IsTrue (is_key_form low)
+IsTypedKey (at.Log number) = number < 2 ^ 64
+IsTypedKey (at.Job number) = number < 2 ^ 32
+IsTypedKey at.Counter = Unit {0}
+IsTypedKey (at.SiteState location) = IsTrue (is_location location)
+IsTypedKey (at.Local name low number) = IsTrue (is_name name) × IsTrue (is_key_form low) × (number < 2 ^ 64)
+IsTypedKey (at.Row row) = IsRowName row
+
+-- ---- what a change keeps
+
+-- A cell is put, or a key of the program's type is cleared.
+abbrev pub IsEdit : Edit → Type 0
+IsEdit (Put c) = IsCell c
+IsEdit (Delete key) = IsTypedKey key
+
+abbrev pub AreEdits : List Edit → Type 0
+AreEdits [] = Unit {0}
+AreEdits (edit ∷ edits) = IsEdit edit × AreEdits edits

@@ -1,4 +1,6 @@
 //! What the stores hold: ten kinds of cells, and the keys under which they stand.
+ghost use Rattle.cell_world.specs.Spelled.{IsToken, IsMarkValue, IsLocalRow, IsRowName, AreCounters, IsTypedKey, IsTyped};
+
 use crate::items::RowBytes;
 use crate::locations::Location;
 use crate::names::Name;
@@ -41,6 +43,15 @@ pub enum Status {
 #[derive(Clone, Copy, PartialEq, Eq)]
 pub struct Token(pub u128);
 
+impl Token {
+    /// Tells what is true of each value of the type. Does nothing.
+    pub fn known(&self)
+        ensures { IsToken self.now }
+    {
+        let _number = self.0;
+    }
+}
+
 /// A store: 0 is the global one, and the n-th location, counted from 1, has store n.
 #[derive(Clone, Copy, PartialEq, Eq)]
 pub struct Site(pub u16);
@@ -71,6 +82,17 @@ pub enum Mark {
     New,
 }
 
+impl Mark {
+    /// Tells what is true of each value of the type. Does nothing.
+    pub fn known(&self)
+        ensures { IsMarkValue self.now }
+    {
+        if let Mark::Old(number) = self {
+            let _number = *number;
+        }
+    }
+}
+
 /// The next numbers that are given.
 #[derive(Clone, Copy, Debug, PartialEq, Eq)]
 pub struct Counters {
@@ -78,6 +100,16 @@ pub struct Counters {
     pub operation: u64,
     /// To a job, from 1.
     pub job: u32,
+}
+
+impl Counters {
+    /// Tells what is true of each value of the type. Does nothing.
+    pub fn known(&self)
+        ensures { AreCounters self.now }
+    {
+        let _operation = self.operation;
+        let _job = self.job;
+    }
 }
 
 /// A shard's own copy of a mapping at it.
@@ -91,6 +123,18 @@ pub struct LocalRow {
     pub mark: Mark,
 }
 
+impl LocalRow {
+    /// Tells what is true of each value of the type. Does nothing.
+    pub fn known(&self)
+        ensures { IsLocalRow self.now }
+    {
+        let _number = self.number;
+        self.map.known();
+        self.span.known();
+        self.mark.known();
+    }
+}
+
 /// What names a row of a sharded table. Rows are ordered by these fields, in their order.
 #[derive(Clone, Copy, PartialEq, Eq, PartialOrd, Ord)]
 pub struct RowName {
@@ -98,6 +142,18 @@ pub struct RowName {
     pub key: NormKey,
     pub table: Name,
     pub number: u64,
+}
+
+impl RowName {
+    /// Tells what is true of each value of the type. Does nothing.
+    pub fn known(&self)
+        ensures { IsRowName self.now }
+    {
+        let _number = self.number;
+        self.map.known();
+        self.key.known();
+        self.table.known();
+    }
 }
 
 /// What a cell stands under. Keys are ordered by the kind, as listed here, and then by the fields in their order.
@@ -121,6 +177,43 @@ pub enum CellKey {
     Row(RowName),
 }
 
+impl CellKey {
+    /// Tells what is true of each value of the type. Does nothing.
+    pub fn known(&self)
+        ensures { IsTypedKey self.now }
+    {
+        match self {
+            CellKey::Map(name) => name.known(),
+            CellKey::Shard(name, location) => {
+                name.known();
+                location.known();
+            }
+            CellKey::Table(name, table) => {
+                name.known();
+                table.known();
+            }
+            CellKey::Piece(name, low) => {
+                name.known();
+                low.known();
+            }
+            CellKey::Log(number) => {
+                let _number = *number;
+            }
+            CellKey::Job(number) => {
+                let _number = *number;
+            }
+            CellKey::Counter => {}
+            CellKey::SiteState(location) => location.known(),
+            CellKey::Local(name, low, number) => {
+                let _number = *number;
+                name.known();
+                low.known();
+            }
+            CellKey::Row(row) => row.known(),
+        }
+    }
+}
+
 /// What a store holds under a key. All kinds but the last two stand in the global store, those two at shards.
 #[derive(Drop)]
 pub enum Cell {
@@ -139,4 +232,33 @@ pub enum Cell {
     SiteState(Location, Away),
     Local(LocalRow),
     Row(RowName, RowBytes),
+}
+
+impl Cell {
+    /// Tells what is true of each value of the type. Does nothing.
+    pub fn known(&self)
+        ensures { IsTyped self.now }
+    {
+        match self {
+            Cell::Map(name, _, _) => name.known(),
+            Cell::Shard(name, location) => {
+                name.known();
+                location.known();
+            }
+            Cell::Table(name, table) => {
+                name.known();
+                table.known();
+            }
+            Cell::Piece(piece) => piece.known(),
+            Cell::Log(op) => op.known(),
+            Cell::Job(job) => job.known(),
+            Cell::Counter(counters) => counters.known(),
+            Cell::SiteState(location, _) => location.known(),
+            Cell::Local(row) => row.known(),
+            Cell::Row(row, bytes) => {
+                row.known();
+                bytes.known();
+            }
+        }
+    }
 }

@@ -1,6 +1,6 @@
 //! Changes of a store.
 ghost use Rattle.std.specs.Prelude.{◌≡◌, [], ◌∷◌, ◌++◌, OnOk, OnErr, IsTrue};
-ghost use Rattle.cell_world.specs.Spelled.{is_spelled};
+ghost use Rattle.cell_world.specs.Spelled.{is_spelled, AreEdits};
 
 use crate::cells::{Cell, CellKey};
 use crate::items::Memory;
@@ -29,7 +29,11 @@ impl Model for Change {
 
     ghost Value = { List Edit };
 
+    ghost use Rattle.cell_world.specs.Spelled.{AreEdits};
+
     ghost view = { λ change. change.edits.items };
+
+    ghost invariant = { λ change. AreEdits change.edits.items };
 }
 
 impl Change {
@@ -49,6 +53,7 @@ impl Change {
         ensures ok { OnOk result (self.new ≡ self.old ++ Edit.Put cell ∷ []) }
         ensures err { OnErr result (self.new ≡ self.old) }
     {
+        cell.known();
         if self.edits.push(Edit::Put(cell)).is_err() {
             return Err(Memory);
         }
@@ -60,6 +65,7 @@ impl Change {
         ensures ok { OnOk result (self.new ≡ self.old ++ Edit.Delete key ∷ []) }
         ensures err { OnErr result (self.new ≡ self.old) }
     {
+        key.known();
         if self.edits.push(Edit::Delete(key)).is_err() {
             return Err(Memory);
         }
@@ -71,5 +77,12 @@ impl Change {
         ensures { result.now ≡ self.now }
     {
         self.edits.as_slice()
+    }
+
+    /// Tells what is true of each change: it puts nothing but cells, and clears nothing but keys of cells. Does nothing.
+    pub fn known(&self)
+        ensures { AreEdits self.now }
+    {
+        let _edits = &self.edits;
     }
 }

@@ -51,6 +51,13 @@ impl KeyText {
     {
         &self.bytes[..self.len as usize]
     }
+
+    /// Tells what is true of each value of the type. Does nothing.
+    pub fn known(&self)
+        ensures { IsTrue (is_key_text self.now) }
+    {
+        let _len = self.len;
+    }
 }
 
 impl PartialEq for KeyText {

@@ -50,6 +50,13 @@ impl NormKey {
     {
         &self.bytes[..self.len as usize]
     }
+
+    /// Tells what is true of each value of the type. Does nothing.
+    pub fn known(&self)
+        ensures { IsTrue (is_key_form self.now) }
+    {
+        let _len = self.len;
+    }
 }
 
 impl PartialEq for NormKey {

@@ -1,4 +1,7 @@
 //! Mappings, the long operations that change them, and the jobs that move them.
+ghost use Rattle.std.specs.Prelude.{IfSome};
+ghost use Rattle.cell_world.specs.Spelled.{IsPiece, ArePieces, IsPhase, IsJob, IsExtra, IsOp};
+
 use crate::cells::{Status, Token};
 use crate::locations::Location;
 use crate::names::Name;
@@ -15,11 +18,43 @@ pub struct Piece {
     pub token: Option<Token>,
 }
 
+impl Piece {
+    /// Tells what is true of each value of the type. Does nothing.
+    pub fn known(&self)
+        ensures { IsPiece self.now }
+    {
+        self.map.known();
+        self.span.known();
+        self.location.known();
+        if let Some(token) = &self.token {
+            token.known();
+        }
+    }
+}
+
 /// At most two mappings. Of two the lower is the first; there is a second one only beside a first.
 #[derive(Clone, Copy, PartialEq, Eq)]
 pub struct Pieces {
     pub one: Option<Piece>,
     pub two: Option<Piece>,
+}
+
+impl Pieces {
+    /// Tells what is true of each value of the type. Does nothing.
+    pub fn known(&self)
+        ensures { ArePieces self.now }
+    {
+        known_piece(&self.one);
+        known_piece(&self.two);
+    }
+}
+
+fn known_piece(piece: &Option<Piece>)
+    ensures { IfSome piece.now IsPiece }
+{
+    if let Some(piece) = piece {
+        piece.known();
+    }
 }
 
 /// Where a job's batch from the cursor on stands.
@@ -31,6 +66,19 @@ pub enum Phase {
     Copying(High),
     /// They belong to the target, and are deleted at the source.
     Moved(High),
+}
+
+impl Phase {
+    /// Tells what is true of each value of the type. Does nothing.
+    pub fn known(&self)
+        ensures { IsPhase self.now }
+    {
+        match self {
+            Phase::Idle => {}
+            Phase::Copying(end) => end.known(),
+            Phase::Moved(end) => end.known(),
+        }
+    }
 }
 
 /// A job that moves the keys of a range from one shard to another, batch by batch.
@@ -50,12 +98,44 @@ pub struct JobRow {
     pub phase: Phase,
 }
 
+impl JobRow {
+    /// Tells what is true of each value of the type. Does nothing.
+    pub fn known(&self)
+        ensures { IsJob self.now }
+    {
+        let _number = self.number;
+        let _batch = self.batch;
+        self.map.known();
+        self.low.known();
+        self.high.known();
+        self.source.known();
+        self.target.known();
+        self.cursor.known();
+        self.phase.known();
+    }
+}
+
 /// What an operation does to a job as it commits.
 #[derive(Clone, Copy, PartialEq, Eq)]
 pub enum Extra {
     None,
     JobPut(JobRow),
     JobDrop(u32),
+}
+
+impl Extra {
+    /// Tells what is true of each value of the type. Does nothing.
+    pub fn known(&self)
+        ensures { IsExtra self.now }
+    {
+        match self {
+            Extra::None => {}
+            Extra::JobPut(job) => job.known(),
+            Extra::JobDrop(number) => {
+                let _number = *number;
+            }
+        }
+    }
 }
 
 /// A long operation: it replaces old mappings by new ones in several transactions.
@@ -68,6 +148,20 @@ pub struct Op {
     pub olds: Pieces,
     pub news: Pieces,
     pub extra: Extra,
+}
+
+impl Op {
+    /// Tells what is true of each value of the type. Does nothing.
+    pub fn known(&self)
+        ensures { IsOp self.now }
+    {
+        let _number = self.number;
+        self.map.known();
+        self.hull.known();
+        self.olds.known();
+        self.news.known();
+        self.extra.known();
+    }
 }
 
 /// What a command touches, as far as operations under way must keep off it.

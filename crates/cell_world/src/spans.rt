@@ -1,6 +1,7 @@
 //! Spans of keys.
 ghost use Rattle.std.specs.Prelude.{◌≡◌};
 ghost use Rattle.cell_world.specs.Keys.{contains, overlaps, low_of};
+ghost use Rattle.cell_world.specs.Spelled.{IsEnd, IsSpan};
 
 use crate::norm_keys::NormKey;
 
@@ -11,6 +12,18 @@ pub enum High {
     At(NormKey),
     /// Unbounded.
     Max,
+}
+
+impl High {
+    /// Tells what is true of each value of the type. Does nothing.
+    pub fn known(&self)
+        ensures { IsEnd self.now }
+    {
+        match self {
+            High::At(key) => key.known(),
+            High::Max => {}
+        }
+    }
 }
 
 /// The keys of a mapping: those of a range map from a low key up to an end, or one key of a list map.
@@ -54,5 +67,18 @@ impl Span {
             mine
         };
         self.contains(greater) && other.contains(greater)
+    }
+
+    /// Tells what is true of each value of the type. Does nothing.
+    pub fn known(&self)
+        ensures { IsSpan self.now }
+    {
+        match self {
+            Span::Range(low, high) => {
+                low.known();
+                high.known();
+            }
+            Span::Point(at) => at.known(),
+        }
     }
 }
