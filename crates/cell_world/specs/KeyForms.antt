@@ -3,7 +3,7 @@ use Rattle.std.specs.Prelude.{ℕ, ◌+◌, ◌-◌, ◌*◌, ◌^◌, Bool, tru
 use Rattle.std.proofs.Common.{zero, suc}
 use Rattle.std.specs.Int.{from_be_bytes, to_be_bytes, w32, w64}
 use Rattle.std.specs.List.{list_all}
-use Rattle.cell_world.specs.Texts.{Text, is_digit}
+use Rattle.cell_world.specs.Texts.{Text, is_digit, are_bytes}
 use Rattle.cell_world.specs.Keys.{before}
 use Rattle.cell_world.specs.declared.cells.KeyType.{KeyType}
 use Rattle.cell_world.specs.declared.cells.KeyType.TheVariants.{Int, Long, Guid, Bytes, Datetime, Timespan}
@@ -15,10 +15,6 @@ use Rattle.cell_world.specs.declared.spans.Span.{Span}
 use Rattle.cell_world.specs.declared.spans.Span.TheVariants.{Range, Point}
 
 -- ---- normal forms
-
--- the numbers are bytes
-abbrev pub are_bytes : Text → Bool
-are_bytes = list_all (λ b. nat_lt b 256)
 
 abbrev pub last_is_zero : Text → Bool
 last_is_zero [] = false

@@ -1,7 +1,7 @@
 -- Which values are cells.
 use Rattle.std.specs.Prelude.{◌≡◌, ℕ, ◌<◌, ◌≤◌, ◌^◌, Bool, true, false, ◌&&◌, ◌||◌, not, List, [], ◌∷◌, ◌++◌, length, Option, IfSome, IsTrue, is_some, is_none, option_to_list}
 use Rattle.std.specs.List.{list_all}
-use Rattle.cell_world.specs.Texts.{Text, is_name, is_location, is_key_form}
+use Rattle.cell_world.specs.Texts.{Text, is_name, is_location, is_key_form, is_row_value}
 use Rattle.cell_world.specs.Keys.{same}
 use Rattle.cell_world.specs.declared.spans.High.{High}
 use Rattle.cell_world.specs.declared.spans.High.TheVariants.{At, Max}
@@ -126,7 +126,7 @@ IsTyped (cell.Job job) = IsJob job
 IsTyped (cell.Counter counters) = AreCounters counters
 IsTyped (cell.SiteState location state) = IsTrue (is_location location)
 IsTyped (cell.Local row) = IsLocalRow row
-IsTyped (cell.Row row bytes) = IsRowName row × (length bytes ≤ 1024)
+IsTyped (cell.Row row bytes) = IsRowName row × IsTrue (is_row_value bytes)
 
 -- The value is a cell that can be spelled.
 pub record IsCell (c : Cell) : Type 0 where

@@ -47,6 +47,14 @@ is_key_text_byte c = nat_le 33 c && nat_le c 126
 abbrev pub is_key_text : Text → Bool
 is_key_text xs = not (length xs == 0) && (nat_le (length xs) 300 && list_all is_key_text_byte xs)
 
+-- the numbers are bytes
+abbrev pub are_bytes : Text → Bool
+are_bytes = list_all (λ b. nat_lt b 256)
+
 -- a key: at most 128 bytes
 abbrev pub is_key_form : Text → Bool
-is_key_form xs = nat_le (length xs) 128
+is_key_form xs = are_bytes xs && nat_le (length xs) 128
+
+-- the value of a row: at most 1,024 bytes
+abbrev pub is_row_value : Text → Bool
+is_row_value xs = are_bytes xs && nat_le (length xs) 1024

@@ -1,7 +1,7 @@
 //! The grammars of names, locations and key texts.
 ghost use Rattle.std.specs.Prelude.{◌≡◌, ◌≤◌, length, IsTrue};
 ghost use Rattle.std.specs.List.{list_all, position};
-ghost use Rattle.cell_world.specs.Texts.{is_letter, is_digit, is_name_byte, is_name, is_part_byte, is_part, is_slash, is_location, is_key_text_byte, is_key_text};
+ghost use Rattle.cell_world.specs.Texts.{is_letter, is_digit, is_name_byte, is_name, is_part_byte, is_part, is_slash, is_location, is_key_text_byte, is_key_text, are_bytes};
 
 /// The longest name, in bytes.
 pub(crate) const NAME_BYTES: usize = 32;
@@ -124,4 +124,11 @@ pub(crate) fn is_key_text(bytes: &[u8]) -> bool
     let fits = bytes.len() <= KEY_TEXT_BYTES;
     let inner = all_key_text_bytes(bytes);
     some && (fits && inner)
+}
+
+/// Tells what is true of each list of bytes. Does nothing.
+pub(crate) fn known_bytes(bytes: &[u8])
+    ensures { IsTrue (are_bytes bytes.now) }
+{
+    let _bytes = bytes;
 }

@@ -1,7 +1,9 @@
 //! Lists inside cells, commands and replies, which contracts see as lists.
-ghost use Rattle.std.specs.Prelude.{◌≡◌, ◌≤◌, ◌++◌, ◌∷◌, [], length, IfOk, OnOk, OnErr};
+ghost use Rattle.std.specs.Prelude.{◌≡◌, ◌≤◌, ◌++◌, ◌∷◌, [], length, IsTrue, IfOk, OnOk, OnErr};
 ghost use Rattle.std.specs.Option.{SomeIff};
+ghost use Rattle.cell_world.specs.Texts.{is_row_value};
 
+use crate::grammar::known_bytes;
 use std::alloc::Global;
 use std::marker::Model;
 
@@ -79,13 +81,15 @@ pub struct RowBytes {
 }
 
 impl Model for RowBytes {
-    ghost use Rattle.std.specs.Prelude.{ℕ, List, length, ◌≤◌};
+    ghost use Rattle.std.specs.Prelude.{ℕ, List, IsTrue};
 
     ghost Value = { List ℕ };
 
     ghost view = { λ row. row.items.items };
 
-    ghost invariant = { λ row. length row.items.items ≤ 1024 };
+    ghost use Rattle.cell_world.specs.Texts.{is_row_value};
+
+    ghost invariant = { λ row. IsTrue (is_row_value row.items.items) };
 }
 
 impl RowBytes {
@@ -96,6 +100,7 @@ impl RowBytes {
         if items.len() > ROW_BYTES {
             return None;
         }
+        known_bytes(items.as_slice());
         Some(RowBytes { items })
     }
 
@@ -109,7 +114,7 @@ impl RowBytes {
 
     /// Tells what is true of each value of the type. Does nothing.
     pub fn known(&self)
-        ensures { length self.now ≤ 1024 }
+        ensures { IsTrue (is_row_value self.now) }
     {
         let _items = &self.items;
     }

@@ -4,6 +4,7 @@ ghost use Rattle.std.specs.Option.{SomeIff};
 ghost use Rattle.cell_world.specs.Texts.{is_key_form};
 
 use crate::fixed::padded;
+use crate::grammar::known_bytes;
 use std::cmp::Ordering;
 use std::marker::Model;
 
@@ -38,6 +39,7 @@ impl NormKey {
         if bytes.len() > 128 {
             return None;
         }
+        known_bytes(bytes);
         Some(NormKey {
             len: bytes.len() as u8,
             bytes: padded(bytes),
