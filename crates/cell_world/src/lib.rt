@@ -3,6 +3,7 @@
 
 pub mod cells;
 pub mod changes;
+pub mod comparing;
 mod fixed;
 mod grammar;
 pub mod items;
