@@ -1,0 +1,180 @@
+-- Which histories a run may have on a trail, with the order in which all came as the witness.
+use Rattle.std.specs.Prelude.{◌≡◌, ◌≢◌, ◌⊎◌, ℕ, ◌+◌, Bool, true, false, ◌&&◌, ◌==◌, List, [], ◌∷◌, length, Option, Some, None, find, is_some}
+use Rattle.std.specs.FinMap as map
+use Rattle.cell_world.specs.Texts.{Text}
+use Rattle.cell_world.specs.Spelled.{listed}
+use Rattle.cell_world.specs.Images.{Image, Place, Global, Shard, Trail, Happening, Committed, Wrote, Reopened, global}
+use Rattle.cell_world.specs.Plain.{PlainState, Connections, nobody, with_connections}
+use Rattle.cell_world.specs.Meaning.{meaning, next_operation}
+use Rattle.cell_world.specs.Jobs.{Replace, Finish, job_step}
+use Rattle.cell_world.specs.Sound.{HasLog}
+use Rattle.cell_world.specs.declared.operations.Op.{Op}
+use Rattle.cell_world.specs.declared.operations.JobRow.{JobRow}
+use Rattle.cell_world.specs.declared.cells.Away.TheVariants as away
+use Rattle.cell_world.specs.declared.changes.Edit.{Edit}
+use Rattle.plain_model.specs.declared.commands.Command.{Command}
+use Rattle.plain_model.specs.declared.replies.Reply.{Reply}
+use Rattle.plain_model.specs.declared.replies.Reply.TheVariants as reply
+use Rattle.plain_model.specs.declared.replies.Refusal.TheVariants as refused
+use Rattle.plain_model.specs.declared.history.Entry.{Entry}
+use Rattle.plain_model.specs.Differing.{clean}
+use Rattle.plain_model.specs.Timelines.{Timeline, Happened, Entered, image_of, facts_of, happened_of, history_of, past_of}
+use Rattle.plain_model.specs.Near.{Near}
+use Rattle.plain_model.specs.JobSteps.{asked_number, asked_job, stepped}
+use Rattle.plain_model.specs.Follows.{Follows}
+use Rattle.plain_model.specs.OnTrail.{OnTrail, logs_put, was_reopened}
+
+-- ---- what may happen
+
+-- The stores stand for the state after the latest entry, up to near.
+abbrev pub IsAtRest : Image → Timeline → Type 0
+IsAtRest start past = Near (meaning (image_of start past)) (facts_of start past)
+
+-- The operation number of the counter changes only in a commit that puts one log cell: that has the number that stood, and the next stands afterwards.
+abbrev pub Counts : ℕ → ℕ → List Op → Type 0
+Counts old new [] = new ≡ old
+Counts old new (op ∷ []) = (op.number ≡ old) × (new ≡ old + 1)
+Counts old new ops = ⊥
+
+abbrev pub IsDetachedIn : Image → Text → Type 0
+IsDetachedIn image location = map.get (global image).away location ≡ Some away.Detached
+
+-- a commit at a detached site comes after a reopening of it, with no entry between, and leaves what `attach` would keep of its cells
+pub record Mends (past : Timeline) (location : Text) (before after : Image) : Type 0 where
+  pub reopened : was_reopened location past ≡ true
+  pub clean : clean (meaning before) location (after.at (Shard location)) ≡ clean (meaning before) location (before.at (Shard location))
+
+-- a commit that was made: at the global store it keeps to the counter; at a shard it puts no log cell
+abbrev pub MayCommit : Timeline → Place → List Edit → Image → Image → Type 0
+MayCommit past Global change before after = Counts (next_operation before) (next_operation after) (logs_put change)
+MayCommit past (Shard location) change before after = (logs_put change ≡ []) × (IsDetachedIn before location → Mends past location before after)
+
+abbrev pub MayHappen : Image → Timeline → Happening → Type 0
+MayHappen start past (Committed place change true) = MayCommit past place change (image_of start past) (image_of start (Happened (Committed place change true) ∷ past))
+-- one that wasn't made at a detached site came after a reopening too
+MayHappen start past (Committed (Shard location) change false) = IsDetachedIn (image_of start past) location → was_reopened location past ≡ true
+MayHappen start past (Committed Global change false) = Unit {0}
+MayHappen start past (Wrote bytes) = Unit {0}
+-- no reopening concerns the global store
+MayHappen start past (Reopened Global cells) = ⊥
+MayHappen start past (Reopened (Shard location) cells) = Unit {0}
+
+-- ---- steps of jobs were planned by the table
+
+-- the operation is the job's next step in the image
+pub record IsPlannedIn (image : Image) (number : ℕ) (op : Op) : Type 0 where
+  pub job : JobRow
+  pub stands : map.get (global image).jobs number ≡ Some job
+  pub row : job_step (meaning image) job ≡ Replace (listed op.olds) (listed op.news) op.extra
+
+-- Its log cell was put in this run, on an image in which it was.
+abbrev pub WasPlanned : Image → ℕ → Op → Timeline → Type 0
+WasPlanned start number op [] = ⊥
+WasPlanned start number op (Happened (Committed Global change true) ∷ past) = ((logs_put change ≡ op ∷ []) × IsPlannedIn (image_of start past) number op) ⊎ WasPlanned start number op past
+WasPlanned start number op (Happened h ∷ past) = WasPlanned start number op past
+WasPlanned start number op (Entered e ∷ past) = WasPlanned start number op past
+
+-- the image before the latest happening
+abbrev pub image_before : Image → Timeline → Image
+image_before start (Happened h ∷ past) = image_of start past
+image_before start past = image_of start past
+
+-- a step of a job that was made by an operation: it stood in the log up to then, was planned, and the step is what it does
+pub record IsMadeBy (start : Image) (past : Timeline) (A B : PlainState) (job : JobRow) (op : Op) : Type 0 where
+  pub logged : HasLog (global (image_before start past)).log op
+  pub planned : WasPlanned start job.number op past
+  pub step : stepped A job (Replace (listed op.olds) (listed op.news) op.extra) ≡ Some B
+
+-- An entry of a `step` or a `run`, answered or not, changes no mapping and no job, or is the finish, or was made by an operation.
+abbrev pub IsPlanned : Image → Timeline → PlainState → PlainState → Option JobRow → Type 0
+IsPlanned start past A B None = Unit {0}
+IsPlanned start past A B (Some job) = ((B.mappings ≡ A.mappings) × (B.jobs ≡ A.jobs)) ⊎ (stepped A job Finish ≡ Some B) ⊎ ((op : Op) × IsMadeBy start past A B job op)
+
+-- ---- what may be entered
+
+-- An entry that may come now, by which the connections become others.
+pub record MayEnter (since : ℕ) (start : Image) (past : Timeline) (e : Entry) (before after : Connections) : Type 0 where
+  -- its moment is now; `since` is the moment of the start
+  pub moment : e.moment ≡ since + length (happened_of past)
+  -- it follows from the state before it to its own
+  pub follows : Follows (past_of start past) (with_connections (facts_of start past) before) e (with_connections (meaning (image_of start past)) after) e.reply
+  pub on_trail : OnTrail start past (with_connections (facts_of start past) before) e (with_connections (meaning (image_of start past)) after) e.reply
+  pub planned : IsPlanned start past (with_connections (facts_of start past) before) (with_connections (meaning (image_of start past)) after) (asked_job (facts_of start past) e.command)
+
+-- The timeline may come about, with these connections at its end.
+abbrev pub Unfolds : ℕ → Image → Timeline → Connections → Type 0
+Unfolds since start [] connections = connections ≡ nobody
+Unfolds since start (Happened h ∷ past) connections = Unfolds since start past connections × IsAtRest start past × MayHappen start past h
+Unfolds since start (Entered e ∷ past) connections = (before : Connections) × Unfolds since start past before × MayEnter since start past e before connections
+
+-- ---- promises: what an entry says of later ones
+
+-- what a session has going: a command, and the number of its live operation or 0
+pub record Going : Type 0 where
+  pub command : Command
+  pub operation : ℕ
+
+-- by session
+abbrev pub AllGoing : Type 0
+AllGoing = ℕ → Option Going
+
+-- the next entry of a session, and its next one with a reply
+abbrev pub next_of : ℕ → List Entry → Option Entry
+next_of session later = find (λ (e : Entry). e.session == session) later
+
+abbrev pub next_answered : ℕ → List Entry → Option Entry
+next_answered session later = find (λ (e : Entry). (e.session == session) && is_some e.reply) later
+
+abbrev pub is_job_running : Option Reply → Bool
+is_job_running (Some (reply.Refused refused.JobRunning)) = true
+is_job_running answer = false
+
+-- the session's next answer is to a `step` or a `run` of the job, or that is what it has going
+abbrev pub IsAtJob : ℕ → Option Going → Option Entry → Type 0
+IsAtJob number going (Some e) = (asked_number e.command ≡ Some number) × (is_job_running e.reply ≡ false)
+IsAtJob number (Some g) None = asked_number g.command ≡ Some number
+IsAtJob number None None = ⊥
+
+-- the session's next entry names the operation, or it has it going
+abbrev pub IsAtOperation : ℕ → Option Going → Option Entry → Type 0
+IsAtOperation number going (Some e) = e.operation ≡ number
+IsAtOperation number (Some g) None = g.operation ≡ number
+IsAtOperation number None None = ⊥
+
+-- after `job-running` another session's next answer is to the job
+pub record PromisesJob (going : AllGoing) (e : Entry) (later : List Entry) : Type 0 where
+  pub other : ℕ
+  pub is_other : other ≢ e.session
+  pub number : ℕ
+  pub asked : asked_number e.command ≡ Some number
+  pub at_job : IsAtJob number (going other) (next_answered other later)
+
+-- after `pending P` another session's next entry names P
+pub record PromisesOperation (going : AllGoing) (e : Entry) (later : List Entry) (number : ℕ) : Type 0 where
+  pub other : ℕ
+  pub is_other : other ≢ e.session
+  pub at_operation : IsAtOperation number (going other) (next_of other later)
+
+abbrev pub Promises : AllGoing → Entry → List Entry → Option Reply → Type 0
+Promises going e later (Some (reply.Refused refused.JobRunning)) = PromisesJob going e later
+Promises going e later (Some (reply.Pending number)) = PromisesOperation going e later number
+Promises going e later answer = Unit {0}
+
+-- Each entry's promise is kept by the entries after it, or by what is going at the end.
+abbrev pub KeepsPromises : AllGoing → List Entry → Type 0
+KeepsPromises going [] = Unit {0}
+KeepsPromises going (e ∷ later) = Promises going e later e.reply × KeepsPromises going later
+
+-- ---- legal
+
+-- The history is legal on the trail from its start, which is moment `since`; each session has this going at the end.
+pub record Legal (since : ℕ) (trail : Trail) (going : AllGoing) (history : List Entry) : Type 0 where
+  -- what came in which order
+  pub timeline : Timeline
+  pub happened : happened_of timeline ≡ trail.happened
+  pub entries : history_of timeline ≡ history
+  -- the connections at the end
+  pub connections : Connections
+  pub unfolds : Unfolds since trail.start timeline connections
+  pub rests : IsAtRest trail.start timeline
+  pub promises : KeepsPromises going history
