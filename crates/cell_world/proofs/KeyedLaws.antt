@@ -10,7 +10,7 @@ use Rattle.std.proofs.lemmas.Cmp.{nat_list_cmp_total, nat_cmp_total}
 use Rattle.std.proofs.lemmas.Map.Lookups.{exact_unsigned}
 use Rattle.cell_world.specs.ByteOrder.{byte_cmp}
 use Rattle.cell_world.specs.Orders.{pair_cmp, local_cmp, row_cmp}
-use Rattle.cell_world.specs.Spelled.{IsCell}
+use Rattle.cell_world.specs.Spelled.{IsCell, AreEdits}
 use Rattle.cell_world.specs.Stores.{Store, put, delete, edited, changed, empty_store, cell_at, key_of, Stands, place_of, name_of, IsKeyed, IsStore}
 use Rattle.cell_world.specs.declared.operations.Op.{Op}
 use Rattle.cell_world.specs.declared.operations.JobRow.{JobRow}
@@ -252,3 +252,9 @@ pub store_changed : (s : Store) (edits : List Edit) → PutsCells edits → IsSt
 store_changed s [] puts h = h
 store_changed s (Put c ∷ edits) puts h = store_changed (put s c) edits (λ k d less. puts (suc k) d (suc-le-suc less)) (store_put s c (puts 0 (Put c) (zero-lt-suc _) c refl) h)
 store_changed s (Delete k ∷ edits) puts h = store_changed (delete s k) edits (λ j d less. puts (suc j) d (suc-le-suc less)) (store_delete s k h)
+
+-- So a change that is one of the program's type keeps a store one.
+pub store_edits : (s : Store) (edits : List Edit) → AreEdits edits → IsStore s → IsStore (changed s edits)
+store_edits s [] are h = h
+store_edits s (Put c ∷ edits) are h = store_edits (put s c) edits are.1 (store_put s c are.0 h)
+store_edits s (Delete k ∷ edits) are h = store_edits (delete s k) edits are.1 (store_delete s k h)
