@@ -5,6 +5,7 @@ pub mod Fixed
 pub mod Images
 pub mod Jobs
 pub mod KeyForms
+pub mod KeyOrder
 pub mod Keys
 pub mod Lawful
 pub mod Lists

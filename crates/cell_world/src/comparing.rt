@@ -1,6 +1,7 @@
 //! Laws of comparison: two values are equal exactly where they are the same value.
 ghost use Rattle.std.specs.Prelude.{◌≡◌, ◌↔◌, IsTrue};
 ghost use Rattle.cell_world.specs.ByteOrder.{byte_cmp};
+ghost use Rattle.cell_world.specs.Finding.{cell_cmp};
 
 use crate::cells::{
     Away, CellKey, Counters, KeyType, LocalRow, MapKind, Mark, RowName, Site, SiteState, Status,
@@ -166,6 +167,13 @@ pub fn norm_key_order(a: &NormKey, b: &NormKey) -> Ordering
 
 pub fn key_text_order(a: &KeyText, b: &KeyText) -> Ordering
     ensures { result ≡ byte_cmp a.now b.now }
+{
+    a.cmp(b)
+}
+
+/// The order of cell keys is cell order.
+pub fn cell_key_order(a: &CellKey, b: &CellKey) -> Ordering
+    ensures { result ≡ cell_cmp a.now b.now }
 {
     a.cmp(b)
 }

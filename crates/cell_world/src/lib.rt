@@ -15,3 +15,5 @@ pub mod norm_keys;
 pub mod operations;
 pub mod outside;
 pub mod spans;
+#[cfg(test)]
+mod tests;
