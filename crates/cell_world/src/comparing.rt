@@ -1,4 +1,4 @@
-//! Laws of comparison: two values are equal exactly where they are the same value.
+//! Laws of comparison: equal values are the same value, texts stand in byte order and cell keys in cell order.
 ghost use Rattle.std.specs.Prelude.{◌≡◌, ◌↔◌, IsTrue};
 ghost use Rattle.cell_world.specs.ByteOrder.{byte_cmp};
 ghost use Rattle.cell_world.specs.Finding.{cell_cmp};
@@ -11,7 +11,7 @@ use crate::key_texts::KeyText;
 use crate::locations::Location;
 use crate::names::Name;
 use crate::norm_keys::NormKey;
-use crate::operations::{Phase, Piece, Reach, StageName};
+use crate::operations::{Extra, JobRow, Op, Phase, Piece, Pieces, Reach, StageName};
 use crate::spans::{High, Span};
 use std::cmp::Ordering;
 
@@ -112,6 +112,30 @@ pub fn piece_equals(a: &Piece, b: &Piece) -> bool
 }
 
 pub fn phase_equals(a: &Phase, b: &Phase) -> bool
+    ensures { IsTrue result ↔ a.now ≡ b.now }
+{
+    a == b
+}
+
+pub fn pieces_equals(a: &Pieces, b: &Pieces) -> bool
+    ensures { IsTrue result ↔ a.now ≡ b.now }
+{
+    a == b
+}
+
+pub fn job_row_equals(a: &JobRow, b: &JobRow) -> bool
+    ensures { IsTrue result ↔ a.now ≡ b.now }
+{
+    a == b
+}
+
+pub fn extra_equals(a: &Extra, b: &Extra) -> bool
+    ensures { IsTrue result ↔ a.now ≡ b.now }
+{
+    a == b
+}
+
+pub fn op_equals(a: &Op, b: &Op) -> bool
     ensures { IsTrue result ↔ a.now ≡ b.now }
 {
     a == b
