@@ -1,17 +1,9 @@
 -- The comparisons that the program derives are exact.
-use Rattle.std.specs.Prelude.{◌≡◌, ◌↔◌, ℕ, Bool, true, false, ◌&&◌, List, Option, Some, None, IsTrue, nat_eq, refl}
+use Rattle.std.specs.Prelude.{◌≡◌, ◌↔◌, Bool, true, false, ◌&&◌, Some, None, IsTrue, nat_eq, refl}
 use Rattle.std.specs.Option.{option_eq}
 use Rattle.std.proofs.Common.{ap, rules, arith}
 use Rattle.cell_world.specs.ByteOrder.{byte_eq}
-use Rattle.cell_world.specs.declared.spans.High.{High}
-use Rattle.cell_world.specs.declared.spans.Span.{Span}
-use Rattle.cell_world.specs.declared.operations.Piece.{Piece}
-use Rattle.cell_world.specs.declared.operations.Pieces.{Pieces}
-use Rattle.cell_world.specs.declared.operations.Phase.{Phase}
-use Rattle.cell_world.specs.declared.operations.JobRow.{JobRow}
-use Rattle.cell_world.specs.declared.operations.Extra.{Extra}
 use Rattle.cell_world.specs.declared.operations.Extra.TheVariants as extra
-use Rattle.cell_world.specs.declared.operations.Op.{Op}
 use Rattle.cell_world.specs.contracts.spans.HighPartialEq.TheImpl as high
 use Rattle.cell_world.specs.contracts.spans.SpanPartialEq.TheImpl as span
 use Rattle.cell_world.specs.contracts.operations.PiecePartialEq.TheImpl as piece

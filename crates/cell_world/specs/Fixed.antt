@@ -1,5 +1,5 @@
 -- A text of at most so many bytes, kept in a fixed array whose rest is zeros.
-use Rattle.std.specs.Prelude.{◌≡◌, ℕ, Bool, true, ◌≤◌, ◌-◌, List, ◌++◌, length, take, replicate, IsTrue, refl}
+use Rattle.std.specs.Prelude.{◌≡◌, ℕ, Bool, ◌≤◌, ◌-◌, List, ◌++◌, length, take, replicate, IsTrue, refl}
 use Rattle.std.proofs.Common.{ap, arith, sym, subst, ◌∙◌, ◌+◌}
 use Rattle.std.proofs.lemmas.List.{length-take-le, take_at, length-append, length-replicate}
 

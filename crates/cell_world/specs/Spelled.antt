@@ -1,7 +1,7 @@
 -- Which values are cells.
-use Rattle.std.specs.Prelude.{◌≡◌, ℕ, ◌<◌, ◌≤◌, ◌^◌, Bool, true, false, ◌&&◌, ◌||◌, not, List, [], ◌∷◌, ◌++◌, length, Option, IfSome, IsTrue, is_some, is_none, option_to_list}
+use Rattle.std.specs.Prelude.{◌<◌, ◌^◌, Bool, true, ◌&&◌, ◌||◌, List, [], ◌∷◌, ◌++◌, IfSome, IsTrue, is_some, is_none, option_to_list}
 use Rattle.std.specs.List.{list_all}
-use Rattle.cell_world.specs.Texts.{Text, is_name, is_location, is_key_form, is_row_value}
+use Rattle.cell_world.specs.Texts.{is_name, is_location, is_key_form, is_row_value}
 use Rattle.cell_world.specs.Keys.{same}
 use Rattle.cell_world.specs.declared.spans.High.{High}
 use Rattle.cell_world.specs.declared.spans.High.TheVariants.{At, Max}
