@@ -16,4 +16,5 @@ pub mod Steps
 pub mod Summary
 pub mod Timelines
 pub mod Worded
+pub mod Worked
 pub mod Written

@@ -4,5 +4,7 @@
 pub mod commands;
 pub mod finish;
 pub mod history;
+pub mod laws;
 pub mod plans;
+pub mod refusal_laws;
 pub mod replies;
