@@ -1,8 +1,7 @@
 -- What the plain step does, command by command.
-use Rattle.std.proofs.Common.{◌≡◌, ℕ, true, cond, refl, ap, ◌∙◌, Some, None, Option, is_some}
+use Rattle.std.proofs.Common.{◌≡◌, ℕ, true, refl, ap, Some, None, Option, is_some}
 use Rattle.std.specs.FinMap as map
-use Rattle.std.specs.Ordering.{is_eq}
-use Rattle.std.proofs.lemmas.Cmp.{tied_itself}
+use Rattle.cell_world.proofs.StoreLaws.{get-insert_same}
 use Rattle.cell_world.specs.Texts.{Text}
 use Rattle.cell_world.specs.ByteOrder.{byte_cmp_total}
 use Rattle.cell_world.specs.Stores.{Maps}
@@ -24,8 +23,7 @@ map_refused held_then s i name kind type h = rw h refl
 
 -- a map that was just put stands
 pub stands_after_insert : (maps : Maps) (name : Text) (v : MapKind × KeyType) → map.contains_key (map.insert maps name v) name ≡ true
-stands_after_insert maps name v =
-    ap is_some (map.get-insert byte_cmp_total maps name v name) ∙ ap (λ b. is_some (cond b (Some v) (map.get maps name))) (ap is_eq (tied_itself byte_cmp_total name))
+stands_after_insert maps name v = ap is_some (get-insert_same byte_cmp_total maps name v)
 
 -- a map that was just made can't be made again
 pub map_twice : (held_then : Held) (s : PlainState) (i : ℕ) (name : Text) (kind other : MapKind) (type type' : KeyType) → (plain_step held_then s i (command.Map name kind type)).1 ≡ reply.Ok

@@ -1,5 +1,5 @@
 -- Which spans a run has learnt, and at which place of its history.
-use Rattle.std.specs.Prelude.{◌≡◌, ◌⊎◌, ℕ, ◌+◌, Bool, true, false, ◌&&◌, not, nat_le, List, [], ◌∷◌, length, Option, Some, None, if◌then◌else◌, filter}
+use Rattle.std.specs.Prelude.{ℕ, ◌+◌, Bool, true, false, ◌&&◌, not, nat_le, List, [], ◌∷◌, length, Option, Some, None, if◌then◌else◌, filter}
 use Rattle.std.specs.List.{list_any}
 use Rattle.std.specs.FinMap as map
 use Rattle.cell_world.specs.Texts.{Text}
@@ -86,7 +86,3 @@ cache_after cache s place other r = cache
 abbrev pub cache_over : Cache → ℕ → List (PlainState × Entry) → Cache
 cache_over cache place [] = cache
 cache_over cache place (e ∷ es) = cache_over (cache_after cache e.0 place e.1.command e.1.reply) (place + 1) es
-
-abbrev pub IsLearnt : Learnt → Cache → Type 0
-IsLearnt k [] = ⊥
-IsLearnt k (c ∷ cs) = (k ≡ c) ⊎ IsLearnt k cs

@@ -8,6 +8,7 @@ use Rattle.cell_world.specs.Keys.{same, below, contains, overlaps, low_of}
 use Rattle.cell_world.specs.KeyForms.{is_span_of}
 use Rattle.cell_world.specs.Stores.{Store, Maps, Shards, Tables, Mappings, Locals, name_of}
 use Rattle.cell_world.specs.Plain.{PlainState, Owner, owner}
+use Rattle.cell_world.specs.Meaning.{is_at}
 use Rattle.cell_world.specs.declared.operations.Piece.{Piece}
 use Rattle.cell_world.specs.declared.cells.LocalRow.{LocalRow}
 use Rattle.cell_world.specs.declared.cells.RowName.{RowName}
@@ -110,11 +111,6 @@ abbrev pub differences : PlainState → Text → Text → List Difference
 differences s location name = differences_where (map.get s.maps name) (map.get s.away location) (mappings_at s.mappings location name) (local_rows_of (s.held location).locals name)
 
 -- ---- stray rows
-
--- there is an owner, and it is at this location
-abbrev pub is_at : Text → Option Piece → Bool
-is_at location None = false
-is_at location (Some piece) = same piece.location location
 
 -- The row's map doesn't stand or doesn't have its table, or its key isn't owned by this site.
 abbrev pub is_stray : Maps → Tables → Owner → Text → RowName → Bool

@@ -5,6 +5,8 @@ use Rattle.std.specs.FinSet as set
 use Rattle.cell_world.specs.Texts.{Text}
 use Rattle.cell_world.specs.Keys.{same, below, contains, low_of, end_of, end_below}
 use Rattle.cell_world.specs.Stores.{Mappings, Jobs, Locals, Rows, name_of, exchanged}
+use Rattle.cell_world.specs.Jobs.{part_of}
+use Rattle.cell_world.specs.Meaning.{is_at}
 use Rattle.cell_world.specs.Plain.{PlainState, Connection, Connections, Held, holds_nothing, owner, with_connections}
 use Rattle.cell_world.specs.declared.operations.Piece.{Piece}
 use Rattle.cell_world.specs.declared.operations.JobRow.{JobRow}
@@ -30,7 +32,7 @@ use Rattle.plain_model.specs.declared.replies.Reply.{Reply}
 use Rattle.plain_model.specs.declared.replies.Reply.TheVariants as reply
 use Rattle.plain_model.specs.declared.replies.Refusal.{Refusal}
 use Rattle.plain_model.specs.declared.replies.Difference.{Difference}
-use Rattle.plain_model.specs.Differing.{differences, stray_rows, local_rows_of, is_at}
+use Rattle.plain_model.specs.Differing.{differences, stray_rows, local_rows_of}
 use Rattle.plain_model.specs.Refusing.{refusal, type_of_map, key_in, range_in, mapping_of, next_mapping, nth_difference, differing_mapping, connection_of, row_of}
 
 -- ---- mappings that replace others
@@ -69,11 +71,11 @@ added name location = exchange_by (λ span. ([], record { map = name; span = spa
 
 -- a mapping cut at a key: both parts keep status, location and token
 abbrev pub cut_at : Option Text → Option Piece → Exchange
-cut_at key piece = exchange_by (λ p. exchange_by (λ k. exchange_by (λ end. (p ∷ [], with_span p (Range (low_of p.span) (At k)) ∷ with_span p (Range k end) ∷ [])) (end_of p.span)) key) piece
+cut_at key piece = exchange_by (λ p. exchange_by (λ k. exchange_by (λ end. (p ∷ [], part_of p (low_of p.span) (At k) ∷ part_of p k end ∷ [])) (end_of p.span)) key) piece
 
 -- a mapping and the one that begins at its high end, as one
-abbrev pub joined : PlainState → Option Piece → Exchange
-joined s = exchange_by (λ p. exchange_by (λ next. exchange_by (λ end. (p ∷ next ∷ [], with_span p (Range (low_of p.span) end) ∷ [])) (end_of next.span)) (next_mapping s p))
+abbrev pub merged_with_next : PlainState → Option Piece → Exchange
+merged_with_next s = exchange_by (λ p. exchange_by (λ next. exchange_by (λ end. (p ∷ next ∷ [], part_of p (low_of p.span) end ∷ [])) (end_of next.span)) (next_mapping s p))
 
 -- What a mapping command replaces, and by what.
 abbrev pub exchange_of : PlainState → Command → Exchange
@@ -84,7 +86,7 @@ exchange_of s (command.Offline name key token) = becomes (with_status Offline) (
 exchange_of s (command.Online name key token) = becomes (with_status Online) (mapping_of s name key)
 exchange_of s (command.Move name key location token) = becomes (with_location location) (mapping_of s name key)
 exchange_of s (command.Split name key token) = cut_at (key_in s name key) (mapping_of s name key)
-exchange_of s (command.Merge name key token) = joined s (mapping_of s name key)
+exchange_of s (command.Merge name key token) = merged_with_next s (mapping_of s name key)
 exchange_of s other = no_exchange
 
 -- the state with the new mappings of an exchange in place of the old ones
