@@ -89,6 +89,24 @@ exchange_of s (command.Split name key token) = cut_at (key_in s name key) (mappi
 exchange_of s (command.Merge name key token) = merged_with_next s (mapping_of s name key)
 exchange_of s other = no_exchange
 
+-- The command is a long operation: it replaces mappings in several transactions.
+abbrev pub is_mapping_command : Command → Bool
+is_mapping_command (command.Add name low high location) = true
+is_mapping_command (command.Addpoint name key location) = true
+is_mapping_command (command.Delete name key token) = true
+is_mapping_command (command.Offline name key token) = true
+is_mapping_command (command.Online name key token) = true
+is_mapping_command (command.Move name key location token) = true
+is_mapping_command (command.Split name key token) = true
+is_mapping_command (command.Merge name key token) = true
+is_mapping_command other = false
+
+-- The command goes on with a job, which makes long operations too.
+abbrev pub is_job_step : Command → Bool
+is_job_step (command.Step number) = true
+is_job_step (command.Run number) = true
+is_job_step other = false
+
 -- the state with the new mappings of an exchange in place of the old ones
 abbrev pub exchanging : PlainState → Exchange → PlainState
 exchanging s e = record s { mappings = exchanged s.mappings e.0 e.1 }
@@ -288,6 +306,7 @@ first_strays s location = take 256 (stray_rows s location)
 
 -- ---- the command table: what an accepted command does, and what it answers
 
+-- `unmap` leaves the mappings: a map without a shard has none in a sound image.
 -- The site that `detach` or `attach` names holds `held_then` from then on, which the state before doesn't tell.
 -- Of `peek`, `step` and `run` the refusals alone stand here: what they answer, and what an accepted step changes, is said
 -- where it is said which entries follow a state. The lines for them are not used.

@@ -4,6 +4,7 @@ ghost use Rattle.std.specs.FinMap as map;
 ghost use Rattle.cell_world.specs.Texts.{Text};
 ghost use Rattle.cell_world.specs.KeyForms.{normal_of, guid_form};
 ghost use Rattle.cell_world.specs.Plain.{PlainState, Held};
+ghost use Rattle.cell_world.specs.Stores.{Store};
 ghost use Rattle.cell_world.specs.declared.cells.KeyType.{KeyType};
 ghost use Rattle.cell_world.specs.declared.cells.KeyType.TheVariants as type;
 ghost use Rattle.cell_world.specs.declared.cells.MapKind.{MapKind};
@@ -15,11 +16,11 @@ ghost use Rattle.plain_model.specs.declared.commands.HighText.TheVariants as wor
 ghost use Rattle.plain_model.specs.declared.replies.Label.TheVariants as label;
 ghost use Rattle.plain_model.specs.declared.replies.Refusal.TheVariants as refused;
 ghost use Rattle.plain_model.specs.declared.replies.Reply.TheVariants as reply;
-ghost use Rattle.plain_model.specs.Differing.{differences_of};
+ghost use Rattle.plain_model.specs.Differing.{differences_of, kept_rows, clean};
 ghost use Rattle.plain_model.specs.KeyPrinting.{key_text, guid_unformed};
 ghost use Rattle.plain_model.specs.Lines.{reply_lines};
 ghost use Rattle.plain_model.specs.Refusing.{refusal};
-ghost use Rattle.plain_model.specs.Steps.{plain_step};
+ghost use Rattle.plain_model.specs.Steps.{plain_step, rest_of};
 ghost use Rattle.plain_model.specs.Worked.{small_key, small_range, range_from, mapping_over, mapping_with, local_row_over, difference_over};
 
 /// A map that was just made can't be made again.
@@ -99,6 +100,27 @@ pub fn worked_differences()
         (local_row_over (span.Point (small_key 5)) status.Offline ∷ [])
         ≡ difference_over (span.Point (small_key 5)) label.Both (Some status.Online) (Some status.Offline)
         ∷ difference_over (span.Point (small_key 7)) label.GlobalOnly (Some status.Online) None ∷ [] }
+{}
+
+/// Of local rows in order those that overlap an earlier kept one are dropped; one that was dropped drops no other.
+pub fn worked_kept_rows()
+    ensures { kept_rows []
+        (local_row_over (small_range 0 10) status.Online ∷ local_row_over (small_range 5 15) status.Online ∷ local_row_over (small_range 10 20) status.Offline ∷ [])
+        ≡ local_row_over (small_range 0 10) status.Online ∷ local_row_over (small_range 10 20) status.Offline ∷ [] }
+{}
+
+/// `attach` changes local rows alone: all other cells of the site stay.
+pub fn clean_keeps_other_cells()
+    ensures { (s : PlainState) (location : Text) (store : Store) → clean s location store ≡ record store { locals = (clean s location store).locals } }
+{}
+
+/// What of a span lies outside a part: on both sides, below, above without an end, and nothing.
+pub fn worked_rests()
+    ensures both { rest_of (small_range 0 30) (small_range 10 20) ≡ small_range 0 10 ∷ small_range 20 30 ∷ [] }
+    ensures below { rest_of (range_from 0) (range_from 10) ≡ small_range 0 10 ∷ [] }
+    ensures above { rest_of (range_from 0) (small_range 0 10) ≡ range_from 10 ∷ [] }
+    ensures whole { rest_of (small_range 0 30) (small_range 0 30) ≡ [] }
+    ensures point { rest_of (span.Point (small_key 7)) (span.Point (small_key 7)) ≡ [] }
 {}
 
 /// Replies and their lines; a session's number stands before each line where lines are tagged.
