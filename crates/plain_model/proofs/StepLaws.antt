@@ -13,7 +13,7 @@ use Rattle.plain_model.specs.declared.replies.Reply.TheVariants as reply
 use Rattle.plain_model.specs.declared.replies.Refusal.{Refusal}
 use Rattle.plain_model.specs.declared.replies.Refusal.TheVariants as refused
 use Rattle.plain_model.specs.Refusing.{refusal}
-use Rattle.plain_model.specs.Steps.{plain_step, answered}
+use Rattle.plain_model.specs.Steps.{plain_step, refused_or_done}
 
 -- a map that stands can't be made
 pub map_refused : (held_then : Held) (s : PlainState) (i : ℕ) (name : Text) (kind : MapKind) (type : KeyType) → map.contains_key s.maps name ≡ true
@@ -30,7 +30,7 @@ pub map_twice : (held_then : Held) (s : PlainState) (i : ℕ) (name : Text) (kin
     → (plain_step held_then (plain_step held_then s i (command.Map name kind type)).0 i (command.Map name other type')).1 ≡ reply.Refused refused.MapExists
 map_twice held_then s i name kind other type type' = by (refusal s i (command.Map name kind type))
   where
-    by : (r : Option Refusal) → (answered held_then s i (command.Map name kind type) r).1 ≡ reply.Ok
-        → (plain_step held_then (answered held_then s i (command.Map name kind type) r).0 i (command.Map name other type')).1 ≡ reply.Refused refused.MapExists
+    by : (r : Option Refusal) → (refused_or_done held_then s i (command.Map name kind type) r).1 ≡ reply.Ok
+        → (plain_step held_then (refused_or_done held_then s i (command.Map name kind type) r).0 i (command.Map name other type')).1 ≡ reply.Refused refused.MapExists
     by None ok = ap (λ p. p.1) (map_refused held_then (record s { maps = map.insert s.maps name (kind, type) }) i name other type' (stands_after_insert s.maps name (kind, type)))
     by (Some r) ok = cc

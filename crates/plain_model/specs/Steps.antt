@@ -89,24 +89,6 @@ exchange_of s (command.Split name key token) = cut_at (key_in s name key) (mappi
 exchange_of s (command.Merge name key token) = merged_with_next s (mapping_of s name key)
 exchange_of s other = no_exchange
 
--- The command is a long operation: it replaces mappings in several transactions.
-abbrev pub is_mapping_command : Command → Bool
-is_mapping_command (command.Add name low high location) = true
-is_mapping_command (command.Addpoint name key location) = true
-is_mapping_command (command.Delete name key token) = true
-is_mapping_command (command.Offline name key token) = true
-is_mapping_command (command.Online name key token) = true
-is_mapping_command (command.Move name key location token) = true
-is_mapping_command (command.Split name key token) = true
-is_mapping_command (command.Merge name key token) = true
-is_mapping_command other = false
-
--- The command goes on with a job, which makes long operations too.
-abbrev pub is_job_step : Command → Bool
-is_job_step (command.Step number) = true
-is_job_step (command.Run number) = true
-is_job_step other = false
-
 -- the state with the new mappings of an exchange in place of the old ones
 abbrev pub exchanging : PlainState → Exchange → PlainState
 exchanging s e = record s { mappings = exchanged s.mappings e.0 e.1 }
@@ -348,10 +330,10 @@ accepted held_then s i (command.Run number) = (s, reply.Done number)
 -- ---- the step
 
 -- A refused command changes nothing.
-abbrev pub answered : Held → PlainState → ℕ → Command → Option Refusal → PlainState × Reply
-answered held_then s i c (Some r) = (s, reply.Refused r)
-answered held_then s i c None = accepted held_then s i c
+abbrev pub refused_or_done : Held → PlainState → ℕ → Command → Option Refusal → PlainState × Reply
+refused_or_done held_then s i c (Some r) = (s, reply.Refused r)
+refused_or_done held_then s i c None = accepted held_then s i c
 
 -- what the command of a session does to the state, and its reply
 abbrev pub plain_step : Held → PlainState → ℕ → Command → PlainState × Reply
-plain_step held_then s i c = answered held_then s i c (refusal s i c)
+plain_step held_then s i c = refused_or_done held_then s i c (refusal s i c)

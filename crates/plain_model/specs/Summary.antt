@@ -38,13 +38,13 @@ abbrev pub replies_of : (Reply → Bool) → List Entry → ℕ
 replies_of sort history = length (filter (λ e. if_there sort e.reply) history)
 
 -- the number of entries that have a reply
-abbrev pub commands_of : List Entry → ℕ
-commands_of history = length (filter (λ e. is_some e.reply) history)
+abbrev pub answered_count : List Entry → ℕ
+answered_count history = length (filter (λ e. is_some e.reply) history)
 
 -- the four lines that a run of a generated script writes in place of its reply lines
 abbrev pub summary_lines : List Entry → Text
 summary_lines history = flat_map (whole_line None) (
-    numbered (codes "commands") (commands_of history)
+    numbered (codes "commands") (answered_count history)
     ∷ numbered (codes "ok") (replies_of is_good history)
     ∷ numbered (codes "refused") (replies_of is_refusal history)
     ∷ numbered (codes "fault") (replies_of is_fault history)
