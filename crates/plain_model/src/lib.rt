@@ -8,3 +8,4 @@ pub mod laws;
 pub mod plans;
 pub mod refusal_laws;
 pub mod replies;
+pub mod run_laws;

@@ -1,0 +1,235 @@
+-- How the run so far goes on by one thing more.
+use Rattle.std.proofs.Common.{◌≡◌, ℕ, Bool, cond, refl, sym, ap, ◌∙◌, subst, Some, None, Option, is_some, [], ◌∷◌, ◌++◌}
+use Rattle.std.proofs.lemmas.List.{append-nil, append_assoc}
+use Rattle.std.proofs.lemmas.Grind.{flat_map-append}
+use Rattle.cell_world.specs.Texts.{Text}
+use Rattle.cell_world.specs.Images.{Image, Happening, Wrote, after_one}
+use Rattle.cell_world.specs.Plain.{PlainState, Connections, nobody}
+use Rattle.cell_world.specs.Meaning.{meaning}
+use Rattle.cell_world.specs.Sound.{Sound}
+use Rattle.plain_model.specs.declared.replies.Reply.{Reply}
+use Rattle.plain_model.specs.declared.history.Entry.{Entry}
+use Rattle.plain_model.specs.Lines.{lines, entry_text}
+use Rattle.plain_model.specs.Timelines.{Timeline, Happened, Entered, image_of, facts_of, history_of, written_of}
+use Rattle.plain_model.specs.Near.{Near}
+use Rattle.plain_model.specs.Legal.{MayHappen, MayEnter}
+use Rattle.plain_model.specs.Written.{Mode, EachReply, Summary, summary, IsPrefixOf, IsQuietAt, surely_written, WrittenSoFar}
+use Rattle.plain_model.specs.Running.{AllSound, Running, bytes_of, text_of, Owes, Owing}
+use Rattle.plain_model.proofs.WrittenAtMoments.{written_of_next, lines_none}
+
+-- ---- near
+
+pub near_itself : (a : PlainState) → Near a a
+near_itself a = record { same = refl; here = λ location stays. refl; rows = λ location suspect. refl; status = λ location name key suspect. refl }
+
+pub near_of : (a b : PlainState) → a ≡ b → Near a b
+near_of a b e = subst (λ x. Near a x) e (near_itself a)
+
+-- ---- what is still to be written
+
+both_empty : (a b : Text) → a ++ b ≡ [] → (a ≡ []) × (b ≡ [])
+both_empty [] b e = (refl, e)
+both_empty (x ∷ a) b e = absurd cc
+
+nothing_more : (tagged : Bool) (past : Timeline) → Owes (EachReply tagged) past [] → written_of past ≡ lines tagged (history_of past)
+nothing_more tagged past owes = sym (append-nil (written_of past)) ∙ owes
+
+-- an entry adds its text
+owes-entry : (mode : Mode) (past : Timeline) (e : Entry) → Owes mode past [] → Owes mode (Entered e ∷ past) (text_of mode e)
+owes-entry (EachReply tagged) past e owes =
+    ap (λ bs. bs ++ entry_text tagged e) (nothing_more tagged past owes) ∙ ap (λ bs. lines tagged (history_of past) ++ bs) (sym (append-nil (entry_text tagged e)))
+    ∙ sym (flat_map-append (entry_text tagged) (history_of past) (e ∷ []))
+owes-entry Summary past e owes = owes
+
+-- an entry without a reply adds nothing
+owes-silent : (mode : Mode) (past : Timeline) (e : Entry) (rest : Text) → e.reply ≡ None → Owes mode past rest → Owes mode (Entered e ∷ past) rest
+owes-silent (EachReply tagged) past e rest silent owes = owes ∙ sym (lines_none tagged (history_of past) e silent)
+owes-silent Summary past e rest silent owes = owes
+
+-- what writes nothing changes nothing of it
+owes-quiet : (mode : Mode) (past : Timeline) (h : Happening) (rest : Text) → bytes_of h ≡ [] → Owes mode past rest → Owes mode (Happened h ∷ past) rest
+owes-quiet mode past h rest quiet owes = by mode (written_of_next h past ∙ ap (λ bs. written_of past ++ bs) quiet ∙ append-nil (written_of past)) owes
+  where
+    by : (mode : Mode) → written_of (Happened h ∷ past) ≡ written_of past → Owes mode past rest → Owes mode (Happened h ∷ past) rest
+    by (EachReply tagged) same owes = ap (λ bs. bs ++ rest) same ∙ owes
+    by Summary same owes = (same ∙ owes.0, owes.1)
+
+-- a part of it was written
+owes-wrote : (mode : Mode) (past : Timeline) (part rest : Text) → Owes mode past (part ++ rest) → Owes mode (Happened (Wrote part) ∷ past) rest
+owes-wrote (EachReply tagged) past part rest owes = append_assoc (written_of past) part rest ∙ owes
+owes-wrote Summary past part rest owes = let none : (part ≡ []) × (rest ≡ []) = both_empty part rest owes.1 in (ap (λ bs. bs ++ part) owes.0 ∙ none.0, none.1)
+
+-- ---- what is written
+
+-- the lines that are surely written are a front of all
+pub surely_front : (tagged : Bool) (past : Timeline) → IsPrefixOf (lines tagged (surely_written past)) (lines tagged (history_of past))
+surely_front tagged [] = ([], refl)
+surely_front tagged (Happened h ∷ past) = surely_front tagged past
+surely_front tagged (Entered e ∷ past) = by e.reply (surely_front tagged past)
+  where
+    by : (r : Option Reply) → IsPrefixOf (lines tagged (surely_written past)) (lines tagged (history_of past)) → IsPrefixOf (lines tagged (cond (is_some r) (history_of past) (surely_written past))) (lines tagged (history_of past ++ e ∷ []))
+    by (Some r) m = (lines tagged (e ∷ []), sym (flat_map-append (entry_text tagged) (history_of past) (e ∷ [])))
+    by None m = (m.0 ++ lines tagged (e ∷ []), sym (append_assoc (lines tagged (surely_written past)) m.0 (lines tagged (e ∷ []))) ∙ ap (λ x. x ++ lines tagged (e ∷ [])) m.1 ∙ sym (flat_map-append (entry_text tagged) (history_of past) (e ∷ [])))
+
+-- what the lines of an entry find written is as much as before it, or all
+enough_with : (tagged : Bool) (past : Timeline) (e : Entry) (r : Option Reply) → e.reply ≡ r → IsPrefixOf (lines tagged (cond (is_some r) (history_of past) (surely_written past))) (written_of past)
+    → IsPrefixOf (lines tagged (surely_written (Entered e ∷ past))) (written_of past)
+enough_with tagged past e r is front = subst (λ (r : Option Reply). IsPrefixOf (lines tagged (cond (is_some r) (history_of past) (surely_written past))) (written_of past)) (sym is) front
+
+-- an entry finds with a summary nothing written
+quiet_at : (mode : Mode) (past : Timeline) (rest : Text) → Owes mode past rest → IsQuietAt mode past
+quiet_at (EachReply tagged) past rest owes = tt
+quiet_at Summary past rest owes = owes.0
+
+written-none : (past : Timeline) → written_of past ≡ [] → IsPrefixOf (written_of past) (summary (history_of past))
+written-none past none = (summary (history_of past), ap (λ bs. bs ++ summary (history_of past)) none)
+
+-- after an entry with a reply
+written-entry : (mode : Mode) (past : Timeline) (e : Entry) (reply : Reply) → e.reply ≡ Some reply → Owes mode past [] → WrittenSoFar mode (Entered e ∷ past)
+written-entry (EachReply tagged) past e reply is owes = record {
+  enough = enough_with tagged past e (Some reply) is ([], append-nil (lines tagged (history_of past)) ∙ sym (nothing_more tagged past owes));
+  no_more = (entry_text tagged e, owes-entry (EachReply tagged) past e owes);
+}
+written-entry Summary past e reply is owes = written-none (Entered e ∷ past) owes.0
+
+-- after an entry without a reply
+written-silent : (mode : Mode) (past : Timeline) (e : Entry) (rest : Text) → e.reply ≡ None → Owes mode past rest → WrittenSoFar mode past → WrittenSoFar mode (Entered e ∷ past)
+written-silent (EachReply tagged) past e rest is owes w = record {
+  enough = enough_with tagged past e None is w.enough;
+  no_more = (w.no_more.0, owes-silent (EachReply tagged) past e w.no_more.0 is w.no_more.1);
+}
+written-silent Summary past e rest is owes w = written-none (Entered e ∷ past) owes.0
+
+-- after what writes nothing
+written-quiet : (mode : Mode) (past : Timeline) (h : Happening) → bytes_of h ≡ [] → WrittenSoFar mode past → WrittenSoFar mode (Happened h ∷ past)
+written-quiet mode past h quiet w = by mode (sym (written_of_next h past ∙ ap (λ bs. written_of past ++ bs) quiet ∙ append-nil (written_of past))) w
+  where
+    by : (mode : Mode) → written_of past ≡ written_of (Happened h ∷ past) → WrittenSoFar mode past → WrittenSoFar mode (Happened h ∷ past)
+    by (EachReply tagged) same w = record { enough = subst (IsPrefixOf (lines tagged (surely_written past))) same w.enough; no_more = subst (λ (bs : Text). IsPrefixOf bs (lines tagged (history_of past))) same w.no_more }
+    by Summary same w = subst (λ (bs : Text). IsPrefixOf bs (summary (history_of past))) same w
+
+-- after a part of what is to be written
+written-part : (mode : Mode) (past : Timeline) (part rest : Text) → WrittenSoFar mode past → Owes mode past (part ++ rest) → WrittenSoFar mode (Happened (Wrote part) ∷ past)
+written-part (EachReply tagged) past part rest w owes = record {
+  enough = (w.enough.0 ++ part, sym (append_assoc (lines tagged (surely_written past)) w.enough.0 part) ∙ ap (λ bs. bs ++ part) w.enough.1);
+  no_more = (rest, owes-wrote (EachReply tagged) past part rest owes);
+}
+written-part Summary past part rest w owes = written-none (Happened (Wrote part) ∷ past) (owes-wrote Summary past part rest owes).0
+
+-- ---- runs
+
+pub sound_now : (start : Image) (past : Timeline) → AllSound start past → Sound (image_of start past)
+sound_now start [] all = all
+sound_now start (Happened h ∷ past) all = all.0
+sound_now start (Entered e ∷ past) all = sound_now start past all
+
+module _ (since : ℕ) (start : Image) (mode : Mode) where
+  -- a run begins
+  pub begins : Sound start → Owing since start mode [] nobody []
+  begins sound = by mode sound
+    where
+      by : (mode : Mode) → Sound start → Owing since start mode [] nobody []
+      by (EachReply tagged) sound = record { run = record { unfolds = refl; exact = refl; sound = sound; was_written = tt; written = record { enough = ([], refl); no_more = ([], refl) } }; owes = refl }
+      by Summary sound = record { run = record { unfolds = refl; exact = refl; sound = sound; was_written = tt; written = ([], refl) }; owes = (refl, refl) }
+
+  -- something happened that leaves what the stores stand for
+  pub goes_on : (past : Timeline) (connections : Connections) (h : Happening) → Running since start mode past connections
+      → MayHappen start past h → Sound (after_one (image_of start past) h) → meaning (after_one (image_of start past) h) ≡ meaning (image_of start past)
+      → WrittenSoFar mode (Happened h ∷ past) → Running since start mode (Happened h ∷ past) connections
+  goes_on past connections h run happens sound same written = record {
+    unfolds = (run.unfolds, near_of (meaning (image_of start past)) (facts_of start past) run.exact, happens);
+    exact = same ∙ run.exact;
+    sound = (sound, run.sound);
+    was_written = (run.was_written, run.written);
+    written = written;
+  }
+
+  -- an entry alone
+  enters_alone : (past : Timeline) (before after : Connections) (e : Entry) → Running since start mode past before
+      → MayEnter since start past e before after → IsQuietAt mode past → WrittenSoFar mode (Entered e ∷ past) → Running since start mode (Entered e ∷ past) after
+  enters_alone past before after e run enters quiet written = record {
+    unfolds = (before, run.unfolds, enters);
+    exact = refl;
+    sound = run.sound;
+    was_written = (run.was_written, quiet);
+    written = written;
+  }
+
+  -- what happened last and its entry: the stores stand exactly for the new state at once
+  enters_with : (past : Timeline) (before after : Connections) (h : Happening) (e : Entry) → Running since start mode past before → MayHappen start past h → Sound (after_one (image_of start past) h)
+      → MayEnter since start (Happened h ∷ past) e before after → IsQuietAt mode (Happened h ∷ past) → WrittenSoFar mode (Entered e ∷ Happened h ∷ past) → Running since start mode (Entered e ∷ Happened h ∷ past) after
+  enters_with past before after h e run happens sound enters quiet written = record {
+    unfolds = (before, (run.unfolds, near_of (meaning (image_of start past)) (facts_of start past) run.exact, happens), enters);
+    exact = refl;
+    sound = (sound, run.sound);
+    was_written = ((run.was_written, run.written), quiet);
+    written = written;
+  }
+
+  -- ---- runs that still have something to write
+
+  -- something happened that writes nothing and leaves what the stores stand for
+  pub owing-happened : (past : Timeline) (connections : Connections) (rest : Text) (h : Happening) → Owing since start mode past connections rest
+      → bytes_of h ≡ [] → MayHappen start past h → Sound (after_one (image_of start past) h) → meaning (after_one (image_of start past) h) ≡ meaning (image_of start past)
+      → Owing since start mode (Happened h ∷ past) connections rest
+  owing-happened past connections rest h owing quiet happens sound same = record {
+    run = goes_on past connections h owing.run happens sound same (written-quiet mode past h quiet owing.run.written);
+    owes = owes-quiet mode past h rest quiet owing.owes;
+  }
+
+  -- an entry with a reply
+  pub owing-entered : (past : Timeline) (before after : Connections) (e : Entry) (reply : Reply) → Owing since start mode past before []
+      → e.reply ≡ Some reply → MayEnter since start past e before after → Owing since start mode (Entered e ∷ past) after (text_of mode e)
+  owing-entered past before after e reply owing is enters = record {
+    run = enters_alone past before after e owing.run enters (quiet_at mode past [] owing.owes) (written-entry mode past e reply is owing.owes);
+    owes = owes-entry mode past e owing.owes;
+  }
+
+  -- an entry without a reply
+  pub owing-silent : (past : Timeline) (before after : Connections) (rest : Text) (e : Entry) → Owing since start mode past before rest
+      → e.reply ≡ None → MayEnter since start past e before after → Owing since start mode (Entered e ∷ past) after rest
+  owing-silent past before after rest e owing is enters = record {
+    run = enters_alone past before after e owing.run enters (quiet_at mode past rest owing.owes) (written-silent mode past e rest is owing.owes owing.run.written);
+    owes = owes-silent mode past e rest is owing.owes;
+  }
+
+  -- what happened last, and the entry with a reply that it stands for
+  pub owing-committed : (past : Timeline) (before after : Connections) (h : Happening) (e : Entry) (reply : Reply) → Owing since start mode past before []
+      → bytes_of h ≡ [] → e.reply ≡ Some reply → MayHappen start past h → Sound (after_one (image_of start past) h) → MayEnter since start (Happened h ∷ past) e before after
+      → Owing since start mode (Entered e ∷ Happened h ∷ past) after (text_of mode e)
+  owing-committed past before after h e reply owing quiet is happens sound enters =
+      let owes : Owes mode (Happened h ∷ past) [] = owes-quiet mode past h [] quiet owing.owes in
+      record {
+        run = enters_with past before after h e owing.run happens sound enters (quiet_at mode (Happened h ∷ past) [] owes) (written-entry mode (Happened h ∷ past) e reply is owes);
+        owes = owes-entry mode (Happened h ∷ past) e owes;
+      }
+
+  -- a step of a job, and its entry
+  pub owing-stepped : (past : Timeline) (before after : Connections) (rest : Text) (h : Happening) (e : Entry) → Owing since start mode past before rest
+      → bytes_of h ≡ [] → e.reply ≡ None → MayHappen start past h → Sound (after_one (image_of start past) h) → MayEnter since start (Happened h ∷ past) e before after
+      → Owing since start mode (Entered e ∷ Happened h ∷ past) after rest
+  owing-stepped past before after rest h e owing quiet is happens sound enters =
+      let owes : Owes mode (Happened h ∷ past) rest = owes-quiet mode past h rest quiet owing.owes in
+      record {
+        run = enters_with past before after h e owing.run happens sound enters (quiet_at mode (Happened h ∷ past) rest owes)
+            (written-silent mode (Happened h ∷ past) e rest is owes (written-quiet mode past h quiet owing.run.written));
+        owes = owes-silent mode (Happened h ∷ past) e rest is owes;
+      }
+
+  -- a part of what is to be written
+  pub owing-wrote : (past : Timeline) (connections : Connections) (part rest : Text) → Owing since start mode past connections (part ++ rest) → Owing since start mode (Happened (Wrote part) ∷ past) connections rest
+  owing-wrote past connections part rest owing = record {
+    run = goes_on past connections (Wrote part) owing.run tt (sound_now start past owing.run.sound) refl (written-part mode past part rest owing.run.written owing.owes);
+    owes = owes-wrote mode past part rest owing.owes;
+  }
+
+  -- all of it
+  pub owing-wrote_all : (past : Timeline) (connections : Connections) (rest : Text) → Owing since start mode past connections rest → Owing since start mode (Happened (Wrote rest) ∷ past) connections []
+  owing-wrote_all past connections rest owing = owing-wrote past connections rest [] (record { run = owing.run; owes = subst (Owes mode past) (sym (append-nil rest)) owing.owes })
+
+-- ---- the summary
+
+-- it is written in parts
+pub summary-wrote : (since : ℕ) (start : Image) (past : Timeline) (connections : Connections) (part : Text) → Running since start Summary past connections
+    → IsPrefixOf (written_of past ++ part) (summary (history_of past)) → Running since start Summary (Happened (Wrote part) ∷ past) connections
+summary-wrote since start past connections part run front = goes_on since start Summary past connections (Wrote part) run tt (sound_now start past run.sound) refl front

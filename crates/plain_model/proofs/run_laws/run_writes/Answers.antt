@@ -1,0 +1,11 @@
+use Rattle.plain_model.proofs.RunLaws.{owing-wrote, owing-wrote_all, summary-wrote}
+use Rattle.plain_model.proofs.run_laws.run_writes.Goals as goal
+
+pub returns-clause-all : goal.returns-clause-all
+returns-clause-all c = owing-wrote_all
+
+pub returns-clause-part : goal.returns-clause-part
+returns-clause-part c = owing-wrote
+
+pub returns-clause-summary : goal.returns-clause-summary
+returns-clause-summary c = summary-wrote

@@ -1,0 +1,78 @@
+//! Laws of a run: how the run so far goes on, and what follows from it at each moment. Each is the contract of a function that does nothing.
+ghost use Rattle.std.specs.Prelude.{◌≡◌, ◌≤◌, ◌++◌, ◌∷◌, [], ℕ, Bool, List, Some, None, drop};
+ghost use Rattle.cell_world.specs.Texts.{Text};
+ghost use Rattle.cell_world.specs.Images.{Image, Trail, Happening, Wrote, after_one, image_at, end_of_trail};
+ghost use Rattle.cell_world.specs.Plain.{Connections, nobody};
+ghost use Rattle.cell_world.specs.Meaning.{meaning};
+ghost use Rattle.cell_world.specs.Sound.{Sound};
+ghost use Rattle.plain_model.specs.declared.replies.Reply.{Reply};
+ghost use Rattle.plain_model.specs.declared.history.Entry.{Entry};
+ghost use Rattle.plain_model.specs.Timelines.{Timeline, Happened, Entered, image_of, happened_of, history_of, written_of};
+ghost use Rattle.plain_model.specs.Legal.{AllGoing, KeepsPromises, Legal, MayHappen, MayEnter};
+ghost use Rattle.plain_model.specs.Written.{Mode, EachReply, Summary, summary, all_lines, IsPrefixOf, WrittenSoFar, AllWritten};
+ghost use Rattle.plain_model.specs.ByMoments.{LegalByMoments, RunsByMoments, from_moment};
+ghost use Rattle.plain_model.specs.Running.{Running, Owing, bytes_of, text_of};
+
+// ---- how the run so far goes on
+
+/// A run begins with stores that are sound, and with nothing to write.
+pub fn run_begins()
+    ensures { (since : ℕ) (start : Image) (mode : Mode) → Sound start → Owing since start mode [] nobody [] }
+{}
+
+/// What happens may leave what the stores stand for: a stage, a mark, a settling, a reopening. Then the run goes on, and what is still to be written stays.
+pub fn run_goes_on()
+    ensures happened { (since : ℕ) (start : Image) (mode : Mode) (past : Timeline) (connections : Connections) (rest : Text) (h : Happening) → Owing since start mode past connections rest →
+        bytes_of h ≡ [] → MayHappen start past h → Sound (after_one (image_of start past) h) → meaning (after_one (image_of start past) h) ≡ meaning (image_of start past) →
+        Owing since start mode (Happened h ∷ past) connections rest }
+    ensures whatever_is_written { (since : ℕ) (start : Image) (mode : Mode) (past : Timeline) (connections : Connections) (h : Happening) → Running since start mode past connections →
+        MayHappen start past h → Sound (after_one (image_of start past) h) → meaning (after_one (image_of start past) h) ≡ meaning (image_of start past) →
+        WrittenSoFar mode (Happened h ∷ past) → Running since start mode (Happened h ∷ past) connections }
+{}
+
+/// An entry may come: alone, or with the commit that it stands for. With a reply it comes once all is written, and its text is then to be written.
+pub fn run_enters()
+    ensures answered { (since : ℕ) (start : Image) (mode : Mode) (past : Timeline) (before after : Connections) (e : Entry) (reply : Reply) → Owing since start mode past before [] →
+        e.reply ≡ Some reply → MayEnter since start past e before after → Owing since start mode (Entered e ∷ past) after (text_of mode e) }
+    ensures unanswered { (since : ℕ) (start : Image) (mode : Mode) (past : Timeline) (before after : Connections) (rest : Text) (e : Entry) → Owing since start mode past before rest →
+        e.reply ≡ None → MayEnter since start past e before after → Owing since start mode (Entered e ∷ past) after rest }
+    ensures committed { (since : ℕ) (start : Image) (mode : Mode) (past : Timeline) (before after : Connections) (h : Happening) (e : Entry) (reply : Reply) → Owing since start mode past before [] →
+        bytes_of h ≡ [] → e.reply ≡ Some reply → MayHappen start past h → Sound (after_one (image_of start past) h) → MayEnter since start (Happened h ∷ past) e before after →
+        Owing since start mode (Entered e ∷ Happened h ∷ past) after (text_of mode e) }
+    ensures job_step { (since : ℕ) (start : Image) (mode : Mode) (past : Timeline) (before after : Connections) (rest : Text) (h : Happening) (e : Entry) → Owing since start mode past before rest →
+        bytes_of h ≡ [] → e.reply ≡ None → MayHappen start past h → Sound (after_one (image_of start past) h) → MayEnter since start (Happened h ∷ past) e before after →
+        Owing since start mode (Entered e ∷ Happened h ∷ past) after rest }
+{}
+
+/// What is to be written may be written at once or in parts, and so may the summary.
+pub fn run_writes()
+    ensures all { (since : ℕ) (start : Image) (mode : Mode) (past : Timeline) (connections : Connections) (rest : Text) → Owing since start mode past connections rest →
+        Owing since start mode (Happened (Wrote rest) ∷ past) connections [] }
+    ensures part { (since : ℕ) (start : Image) (mode : Mode) (past : Timeline) (connections : Connections) (part rest : Text) → Owing since start mode past connections (part ++ rest) →
+        Owing since start mode (Happened (Wrote part) ∷ past) connections rest }
+    ensures summary { (since : ℕ) (start : Image) (past : Timeline) (connections : Connections) (part : Text) → Running since start Summary past connections →
+        IsPrefixOf (written_of past ++ part) (summary (history_of past)) → Running since start Summary (Happened (Wrote part) ∷ past) connections }
+{}
+
+// ---- what follows from it at each moment
+
+/// What is legal in some order is legal at each moment.
+pub fn legal_at_each_moment()
+    ensures { (trail : Trail) (t0 : ℕ) (going : AllGoing) (history : List Entry) → t0 ≤ end_of_trail trail → Legal t0 (from_moment trail t0) going history → LegalByMoments trail t0 going history }
+{}
+
+/// From the run so far: at each moment the stores are sound, the history is legal, and only what happened is written.
+pub fn runs_at_each_moment()
+    ensures { (mode : Mode) (trail : Trail) (t0 : ℕ) (going : AllGoing) (past : Timeline) (connections : Connections) → t0 ≤ end_of_trail trail → happened_of past ≡ drop t0 trail.happened →
+        Running t0 (image_at trail t0) mode past connections → KeepsPromises going (history_of past) → RunsByMoments mode trail t0 going (history_of past) }
+{}
+
+/// All is written at the end where nothing is left to write, or where the summary was written.
+pub fn all_is_written()
+    ensures each_reply { (tagged : Bool) (trail : Trail) (t0 : ℕ) (past : Timeline) (connections : Connections) → t0 ≤ end_of_trail trail → happened_of past ≡ drop t0 trail.happened →
+        Owing t0 (image_at trail t0) (EachReply tagged) past connections [] → AllWritten (EachReply tagged) trail t0 (history_of past) }
+    ensures summary { (trail : Trail) (t0 : ℕ) (past : Timeline) (connections : Connections) → t0 ≤ end_of_trail trail → happened_of (Happened (Wrote (summary (history_of past))) ∷ past) ≡ drop t0 trail.happened →
+        Owing t0 (image_at trail t0) Summary past connections [] → AllWritten Summary trail t0 (history_of past) }
+    ensures in_parts { (mode : Mode) (trail : Trail) (t0 : ℕ) (past : Timeline) → t0 ≤ end_of_trail trail → happened_of past ≡ drop t0 trail.happened →
+        written_of past ≡ all_lines mode (history_of past) → AllWritten mode trail t0 (history_of past) }
+{}
