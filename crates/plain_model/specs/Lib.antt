@@ -3,6 +3,7 @@ pub mod Caches
 pub mod Differing
 pub mod Entries
 pub mod Follows
+pub mod GoingOn
 pub mod Headline
 pub mod JobSteps
 pub mod KeyPrinting

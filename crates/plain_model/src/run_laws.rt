@@ -1,16 +1,19 @@
 //! Laws of a run: how the run so far goes on, and what follows from it at each moment. Each is the contract of a function that does nothing.
-ghost use Rattle.std.specs.Prelude.{◌≡◌, ◌≤◌, ◌++◌, ◌∷◌, [], ℕ, Bool, List, Some, None, drop};
+ghost use Rattle.std.specs.Prelude.{◌≡◌, ◌≤◌, ◌++◌, ◌∷◌, [], ℕ, Bool, List, Some, None, drop, take, slice_get};
 ghost use Rattle.cell_world.specs.Texts.{Text};
-ghost use Rattle.cell_world.specs.Images.{Image, Trail, Happening, Wrote, after_one, image_at, end_of_trail};
+ghost use Rattle.cell_world.specs.Images.{Image, Trail, Happening, Wrote, after_one, image_at, end_of_trail, extended};
 ghost use Rattle.cell_world.specs.Plain.{Connections, nobody};
 ghost use Rattle.cell_world.specs.Meaning.{meaning};
 ghost use Rattle.cell_world.specs.Sound.{Sound};
 ghost use Rattle.plain_model.specs.declared.replies.Reply.{Reply};
+ghost use Rattle.plain_model.specs.declared.replies.Reply.TheVariants as reply;
 ghost use Rattle.plain_model.specs.declared.history.Entry.{Entry};
 ghost use Rattle.plain_model.specs.Timelines.{Timeline, Happened, Entered, image_of, happened_of, history_of, written_of};
-ghost use Rattle.plain_model.specs.Legal.{AllGoing, KeepsPromises, Legal, MayHappen, MayEnter};
-ghost use Rattle.plain_model.specs.Written.{Mode, EachReply, Summary, summary, all_lines, IsPrefixOf, WrittenSoFar, AllWritten};
-ghost use Rattle.plain_model.specs.ByMoments.{LegalByMoments, RunsByMoments, from_moment};
+ghost use Rattle.plain_model.specs.OnTrail.{reach_of_command};
+ghost use Rattle.plain_model.specs.Legal.{Going, AllGoing, Promises, KeepsPromises, Legal, MayHappen, MayEnter};
+ghost use Rattle.plain_model.specs.GoingOn.{GoesOn, TakesUp, NamesOperations};
+ghost use Rattle.plain_model.specs.Written.{Mode, EachReply, Summary, summary, all_lines, IsPrefixOf, WrittenSoFar, AllWritten, last_moment};
+ghost use Rattle.plain_model.specs.ByMoments.{LegalByMoments, TrailByMoments, IsLeastInWayAt, RunsByMoments, from_moment, timeline_at, standing};
 ghost use Rattle.plain_model.specs.Running.{Running, Owing, bytes_of, text_of};
 
 // ---- how the run so far goes on
@@ -56,11 +59,6 @@ pub fn run_writes()
 
 // ---- what follows from it at each moment
 
-/// What is legal in some order is legal at each moment.
-pub fn legal_at_each_moment()
-    ensures { (trail : Trail) (t0 : ℕ) (going : AllGoing) (history : List Entry) → t0 ≤ end_of_trail trail → Legal t0 (from_moment trail t0) going history → LegalByMoments trail t0 going history }
-{}
-
 /// From the run so far: at each moment the stores are sound, the history is legal, and only what happened is written.
 pub fn runs_at_each_moment()
     ensures { (mode : Mode) (trail : Trail) (t0 : ℕ) (going : AllGoing) (past : Timeline) (connections : Connections) → t0 ≤ end_of_trail trail → happened_of past ≡ drop t0 trail.happened →
@@ -75,4 +73,36 @@ pub fn all_is_written()
         Owing t0 (image_at trail t0) Summary past connections [] → AllWritten Summary trail t0 (history_of past) }
     ensures in_parts { (mode : Mode) (trail : Trail) (t0 : ℕ) (past : Timeline) → t0 ≤ end_of_trail trail → happened_of past ≡ drop t0 trail.happened →
         written_of past ≡ all_lines mode (history_of past) → AllWritten mode trail t0 (history_of past) }
+{}
+
+// ---- the order in which all came, and the moments
+
+/// What is legal in some order is legal at each moment, and the other way round. There is but one such order.
+pub fn moments_tell_the_order()
+    ensures at_moments { (trail : Trail) (t0 : ℕ) (going : AllGoing) (history : List Entry) → t0 ≤ end_of_trail trail → Legal t0 (from_moment trail t0) going history → LegalByMoments trail t0 going history }
+    ensures in_order { (trail : Trail) (t0 : ℕ) (going : AllGoing) (history : List Entry) → t0 ≤ end_of_trail trail → LegalByMoments trail t0 going history → Legal t0 (from_moment trail t0) going history }
+    ensures one { (trail : Trail) (t0 : ℕ) (going : AllGoing) (history : List Entry) → t0 ≤ end_of_trail trail → (legal : Legal t0 (from_moment trail t0) going history) →
+        legal.timeline ≡ timeline_at trail t0 history (end_of_trail trail) }
+    ensures grows { (trail : Trail) (t0 : ℕ) (past : Timeline) (h : Happening) → t0 ≤ end_of_trail trail → happened_of past ≡ drop t0 trail.happened →
+        happened_of (Happened h ∷ past) ≡ drop t0 (extended trail h).happened }
+{}
+
+/// What a legal history says of its trail alone.
+pub fn trail_at_each_moment()
+    ensures { (trail : Trail) (t0 : ℕ) (going : AllGoing) (history : List Entry) → t0 ≤ end_of_trail trail → LegalByMoments trail t0 going history → TrailByMoments trail t0 history }
+{}
+
+/// An entry that is answered `pending` names the least live operation in its way, where live is said by moments.
+pub fn pending_names_the_least()
+    ensures { (trail : Trail) (t0 : ℕ) (going : AllGoing) (history : List Entry) → t0 ≤ end_of_trail trail → (legal : LegalByMoments trail t0 going history) →
+        (i : ℕ) (e : Entry) (number : ℕ) → slice_get history i ≡ Some e → e.reply ≡ Some (reply.Pending number) →
+        IsLeastInWayAt trail t0 (take i history) e.moment (reach_of_command (standing trail (last_moment t0 (take i history)) (legal.connections i)) e.command) number }
+{}
+
+// ---- promises
+
+/// Promises are kept as the history goes on, and as a session takes up something.
+pub fn promises_are_kept()
+    ensures entered { (before after : AllGoing) (e : Entry) (history : List Entry) → GoesOn before after e → KeepsPromises before history → Promises after e [] e.reply → KeepsPromises after (history ++ e ∷ []) }
+    ensures taken_up { (before after : AllGoing) (session : ℕ) (g : Going) (history : List Entry) → TakesUp before after session g → NamesOperations history → KeepsPromises before history → KeepsPromises after history }
 {}
