@@ -1,0 +1,129 @@
+-- Small values for the examples: one map with integer keys, two sites, and tables with a few entries.
+use Rattle.std.specs.Prelude.{ℕ, List, [], ◌∷◌, Option, Some, None, map}
+use Rattle.std.specs.FinMap.{from_sorted}
+use Rattle.std.specs.FinSet.{from_list}
+use Rattle.cell_world.specs.Texts.{Text}
+use Rattle.cell_world.specs.Stores.{Maps, Shards, Tables, Mappings, Log, Jobs, AwaySites, Locals, Rows, place_of, name_of}
+use Rattle.cell_world.specs.declared.spans.High.{High}
+use Rattle.cell_world.specs.declared.spans.High.TheVariants.{At, Max}
+use Rattle.cell_world.specs.declared.spans.Span.{Span}
+use Rattle.cell_world.specs.declared.spans.Span.TheVariants.{Range}
+use Rattle.cell_world.specs.declared.cells.KeyType.{KeyType}
+use Rattle.cell_world.specs.declared.cells.KeyType.TheVariants.{Int}
+use Rattle.cell_world.specs.declared.cells.MapKind.{MapKind}
+use Rattle.cell_world.specs.declared.cells.MapKind.TheVariants as kind
+use Rattle.cell_world.specs.declared.cells.Status.{Status}
+use Rattle.cell_world.specs.declared.cells.Mark.{Mark}
+use Rattle.cell_world.specs.declared.cells.Away.{Away}
+use Rattle.cell_world.specs.declared.cells.LocalRow.{LocalRow}
+use Rattle.cell_world.specs.declared.cells.RowName.{RowName}
+use Rattle.cell_world.specs.declared.operations.Piece.{Piece}
+use Rattle.cell_world.specs.declared.operations.Pieces.{Pieces}
+use Rattle.cell_world.specs.declared.operations.JobRow.{JobRow}
+use Rattle.cell_world.specs.declared.operations.Phase.{Phase}
+use Rattle.cell_world.specs.declared.operations.Extra.{Extra}
+use Rattle.cell_world.specs.declared.operations.Op.{Op}
+
+-- ---- names and locations
+
+-- the map `m`
+abbrev pub map_m : Text
+map_m = 109 ∷ []
+
+-- its table `t`
+abbrev pub table_t : Text
+table_t = 116 ∷ []
+
+-- the location `s/a`
+abbrev pub site_a : Text
+site_a = 115 ∷ 47 ∷ 97 ∷ []
+
+-- the location `s/b`
+abbrev pub site_b : Text
+site_b = 115 ∷ 47 ∷ 98 ∷ []
+
+-- ---- keys and spans
+
+-- the normal form of a small number
+abbrev pub int_key : ℕ → Text
+int_key n = 128 ∷ 0 ∷ 0 ∷ n ∷ []
+
+abbrev pub range : ℕ → ℕ → Span
+range low high = Range (int_key low) (At (int_key high))
+
+-- ---- cells of the map
+
+-- a mapping without a token
+abbrev pub free_piece : ℕ → ℕ → Text → Status → Piece
+free_piece low high location status = record { map = map_m; span = range low high; location = location; status = status; token = None }
+
+-- a mapping with the token of job 1
+abbrev pub job_piece : ℕ → ℕ → Text → Status → Piece
+job_piece low high location status = record { map = map_m; span = range low high; location = location; status = status; token = Some (record { 0 = 1 }) }
+
+-- job 1, which moves [0, 10) from `s/a` to `s/b` in batches of two rows
+abbrev pub job_to_b : High → Phase → JobRow
+job_to_b cursor phase = record { number = 1; map = map_m; low = int_key 0; high = At (int_key 10); source = site_a; target = site_b; batch = 2; cursor = cursor; phase = phase }
+
+abbrev pub local_row : ℕ → ℕ → ℕ → Status → Mark → LocalRow
+local_row low high number status mark = record { map = map_m; span = range low high; number = number; status = status; mark = mark }
+
+-- a row of the table `t`
+abbrev pub row_of : ℕ → ℕ → RowName
+row_of key number = record { map = map_m; key = int_key key; table = table_t; number = number }
+
+-- ---- operations
+
+abbrev pub no_pieces : Pieces
+no_pieces = record { one = None; two = None }
+
+abbrev pub one_piece : Piece → Pieces
+one_piece p = record { one = Some p; two = None }
+
+abbrev pub two_pieces : Piece → Piece → Pieces
+two_pieces p q = record { one = Some p; two = Some q }
+
+-- an operation on the map
+abbrev pub op_on : ℕ → Span → Pieces → Pieces → Extra → Op
+op_on number hull olds news extra = record { number = number; map = map_m; hull = hull; olds = olds; news = news; extra = extra }
+
+-- ---- tables: the entries are given in the order of their keys
+
+abbrev pub maps_of : List (Text × (MapKind × KeyType)) → Maps
+maps_of entries = from_sorted entries
+
+abbrev pub shards_of : List (Text × Text) → Shards
+shards_of shards = from_list shards
+
+abbrev pub tables_of : List (Text × Text) → Tables
+tables_of tables = from_list tables
+
+abbrev pub mappings_of : List Piece → Mappings
+mappings_of pieces = from_sorted (map (λ p. (place_of p, p)) pieces)
+
+abbrev pub log_of : List Op → Log
+log_of ops = from_sorted (map (λ op. (op.number, op)) ops)
+
+abbrev pub jobs_of : List JobRow → Jobs
+jobs_of jobs = from_sorted (map (λ job. (job.number, job)) jobs)
+
+abbrev pub away_of : List (Text × Away) → AwaySites
+away_of entries = from_sorted entries
+
+abbrev pub locals_of : List LocalRow → Locals
+locals_of rows = from_sorted (map (λ row. (name_of row, row)) rows)
+
+abbrev pub rows_of : List (RowName × Text) → Rows
+rows_of entries = from_sorted entries
+
+-- the one map is `m`, a range map with integer keys
+abbrev pub maps_m : Maps
+maps_m = maps_of ((map_m, (kind.Range, Int)) ∷ [])
+
+-- its shards are `s/a` and `s/b`
+abbrev pub shards_ab : Shards
+shards_ab = shards_of ((map_m, site_a) ∷ (map_m, site_b) ∷ [])
+
+-- its table is `t`
+abbrev pub tables_t : Tables
+tables_t = tables_of ((map_m, table_t) ∷ [])
