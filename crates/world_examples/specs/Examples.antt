@@ -13,6 +13,7 @@ use Rattle.cell_world.specs.declared.cells.KeyType.TheVariants.{Int}
 use Rattle.cell_world.specs.declared.cells.MapKind.{MapKind}
 use Rattle.cell_world.specs.declared.cells.MapKind.TheVariants as kind
 use Rattle.cell_world.specs.declared.cells.Status.{Status}
+use Rattle.cell_world.specs.declared.cells.Status.TheVariants.{Online, Offline}
 use Rattle.cell_world.specs.declared.cells.Mark.{Mark}
 use Rattle.cell_world.specs.declared.cells.Away.{Away}
 use Rattle.cell_world.specs.declared.cells.LocalRow.{LocalRow}
@@ -21,7 +22,9 @@ use Rattle.cell_world.specs.declared.operations.Piece.{Piece}
 use Rattle.cell_world.specs.declared.operations.Pieces.{Pieces}
 use Rattle.cell_world.specs.declared.operations.JobRow.{JobRow}
 use Rattle.cell_world.specs.declared.operations.Phase.{Phase}
+use Rattle.cell_world.specs.declared.operations.Phase.TheVariants.{Idle, Copying, Moved}
 use Rattle.cell_world.specs.declared.operations.Extra.{Extra}
+use Rattle.cell_world.specs.declared.operations.Extra.TheVariants as extra
 use Rattle.cell_world.specs.declared.operations.Op.{Op}
 
 -- ---- names and locations
@@ -30,7 +33,11 @@ use Rattle.cell_world.specs.declared.operations.Op.{Op}
 abbrev pub map_m : Text
 map_m = 109 ∷ []
 
--- its table `t`
+-- another name, `n`, of which no map stands
+abbrev pub map_n : Text
+map_n = 110 ∷ []
+
+-- the table `t` of `m`
 abbrev pub table_t : Text
 table_t = 116 ∷ []
 
@@ -56,6 +63,10 @@ range low high = Range (int_key low) (At (int_key high))
 -- a mapping without a token
 abbrev pub free_piece : ℕ → ℕ → Text → Status → Piece
 free_piece low high location status = record { map = map_m; span = range low high; location = location; status = status; token = None }
+
+-- a mapping of another map, online at `s/a`
+abbrev pub piece_of : Text → ℕ → ℕ → Piece
+piece_of name low high = record (free_piece low high site_a Online) { map = name }
 
 -- a mapping with the token of job 1
 abbrev pub job_piece : ℕ → ℕ → Text → Status → Piece
@@ -83,9 +94,21 @@ one_piece p = record { one = Some p; two = None }
 abbrev pub two_pieces : Piece → Piece → Pieces
 two_pieces p q = record { one = Some p; two = Some q }
 
+-- a second piece without a first, which is no list of pieces
+abbrev pub second_alone : Piece → Pieces
+second_alone p = record { one = None; two = Some p }
+
 -- an operation on the map
 abbrev pub op_on : ℕ → Span → Pieces → Pieces → Extra → Op
 op_on number hull olds news extra = record { number = number; map = map_m; hull = hull; olds = olds; news = news; extra = extra }
+
+-- an add: [0, 10) at `s/a`
+abbrev pub add_at_a : Op
+add_at_a = op_on 1 (range 0 10) no_pieces (one_piece (free_piece 0 10 site_a Online)) extra.None
+
+-- the offline of a job: its batch is [0, 10) at `s/a`, to be copied to `s/b`
+abbrev pub offline_for_b : Op
+offline_for_b = op_on 1 (range 0 10) (one_piece (job_piece 0 10 site_a Online)) (one_piece (job_piece 0 10 site_a Offline)) (extra.JobPut (job_to_b (At (int_key 0)) (Copying (At (int_key 10)))))
 
 -- ---- tables: the entries are given in the order of their keys
 
