@@ -1,8 +1,10 @@
 -- Small values for the examples: one map with integer keys, two sites, and tables with a few entries.
-use Rattle.std.specs.Prelude.{ℕ, List, [], ◌∷◌, Option, Some, None, map}
+use Rattle.std.specs.Prelude.{ℕ, ◌+◌, List, [], ◌∷◌, Option, Some, None, map}
 use Rattle.std.specs.FinMap.{from_sorted}
 use Rattle.std.specs.FinSet.{from_list}
 use Rattle.cell_world.specs.Texts.{Text}
+use Rattle.cell_world.specs.Plain.{Owner, owner_in}
+use Rattle.cell_world.specs.Jobs.{Row, job_row, batch_end}
 use Rattle.cell_world.specs.Stores.{Maps, Shards, Tables, Mappings, Log, Jobs, AwaySites, Locals, Rows, place_of, name_of}
 use Rattle.cell_world.specs.declared.spans.High.{High}
 use Rattle.cell_world.specs.declared.spans.High.TheVariants.{At, Max}
@@ -72,9 +74,13 @@ piece_of name low high = record (free_piece low high site_a Online) { map = name
 abbrev pub job_piece : ℕ → ℕ → Text → Status → Piece
 job_piece low high location status = record { map = map_m; span = range low high; location = location; status = status; token = Some (record { 0 = 1 }) }
 
--- job 1, which moves [0, 10) from `s/a` to `s/b` in batches of two rows
-abbrev pub job_to_b : High → Phase → JobRow
-job_to_b cursor phase = record { number = 1; map = map_m; low = int_key 0; high = At (int_key 10); source = site_a; target = site_b; batch = 2; cursor = cursor; phase = phase }
+-- job 1, which moves [0, 10) from `s/a` to `s/b` in batches of two rows; its cursor is at a key
+abbrev pub job_at : ℕ → Phase → JobRow
+job_at cursor phase = record { number = 1; map = map_m; low = int_key 0; high = At (int_key 10); source = site_a; target = site_b; batch = 2; cursor = At (int_key cursor); phase = phase }
+
+-- the same job over [low, 10), at its beginning
+abbrev pub job_from : ℕ → JobRow
+job_from low = record (job_at low Idle) { low = int_key low }
 
 abbrev pub local_row : ℕ → ℕ → ℕ → Status → Mark → LocalRow
 local_row low high number status mark = record { map = map_m; span = range low high; number = number; status = status; mark = mark }
@@ -108,7 +114,7 @@ add_at_a = op_on 1 (range 0 10) no_pieces (one_piece (free_piece 0 10 site_a Onl
 
 -- the offline of a job: its batch is [0, 10) at `s/a`, to be copied to `s/b`
 abbrev pub offline_for_b : Op
-offline_for_b = op_on 1 (range 0 10) (one_piece (job_piece 0 10 site_a Online)) (one_piece (job_piece 0 10 site_a Offline)) (extra.JobPut (job_to_b (At (int_key 0)) (Copying (At (int_key 10)))))
+offline_for_b = op_on 1 (range 0 10) (one_piece (job_piece 0 10 site_a Online)) (one_piece (job_piece 0 10 site_a Offline)) (extra.JobPut (job_at 0 (Copying (At (int_key 10)))))
 
 -- ---- tables: the entries are given in the order of their keys
 
@@ -121,8 +127,11 @@ shards_of shards = from_list shards
 abbrev pub tables_of : List (Text × Text) → Tables
 tables_of tables = from_list tables
 
+abbrev pub keyed_pieces : List Piece → List ((Text × Text) × Piece)
+keyed_pieces pieces = map (λ p. (place_of p, p)) pieces
+
 abbrev pub mappings_of : List Piece → Mappings
-mappings_of pieces = from_sorted (map (λ p. (place_of p, p)) pieces)
+mappings_of pieces = from_sorted (keyed_pieces pieces)
 
 abbrev pub log_of : List Op → Log
 log_of ops = from_sorted (map (λ op. (op.number, op)) ops)
@@ -140,8 +149,11 @@ abbrev pub rows_of : List (RowName × Text) → Rows
 rows_of entries = from_sorted entries
 
 -- the one map is `m`, a range map with integer keys
+abbrev pub entries_m : List (Text × (MapKind × KeyType))
+entries_m = (map_m, (kind.Range, Int)) ∷ []
+
 abbrev pub maps_m : Maps
-maps_m = maps_of ((map_m, (kind.Range, Int)) ∷ [])
+maps_m = maps_of entries_m
 
 -- its shards are `s/a` and `s/b`
 abbrev pub shards_ab : Shards
@@ -150,3 +162,20 @@ shards_ab = shards_of ((map_m, site_a) ∷ (map_m, site_b) ∷ [])
 -- its table is `t`
 abbrev pub tables_t : Tables
 tables_t = tables_of ((map_m, table_t) ∷ [])
+
+-- rows of `t` with these keys, numbered from a number on, with nothing in them
+abbrev pub numbered_rows : ℕ → List ℕ → List (RowName × Text)
+numbered_rows number [] = []
+numbered_rows number (key ∷ keys) = (row_of key number, []) ∷ numbered_rows (number + 1) keys
+
+-- who owns the keys where these mappings of `m` stand
+abbrev pub owner_with : List Piece → Owner
+owner_with pieces = owner_in maps_m (mappings_of pieces)
+
+-- rows of `t` with these keys, numbered from 1
+abbrev pub rows_under_keys : List ℕ → Rows
+rows_under_keys keys = rows_of (numbered_rows 1 keys)
+
+-- the row of the job's table where these mappings of `m` stand
+abbrev pub row_with : List Piece → JobRow → Row
+row_with pieces job = job_row (owner_with pieces) (mappings_of pieces) job
