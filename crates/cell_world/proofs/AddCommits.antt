@@ -9,7 +9,7 @@ use Rattle.cell_world.specs.Keys.{contains, overlaps, low_of}
 use Rattle.cell_world.specs.KeyForms.{is_span_of}
 use Rattle.cell_world.specs.Lists.{IsOneOf}
 use Rattle.cell_world.specs.Spelled.{listed}
-use Rattle.cell_world.specs.Stores.{Maps, Mappings, changed, place_of}
+use Rattle.cell_world.specs.Stores.{Maps, Mappings, changed, piece_key}
 use Rattle.cell_world.specs.Images.{Image, Global, Shard, global, with_store}
 use Rattle.cell_world.specs.Plain.{owner_in}
 use Rattle.cell_world.specs.Meaning.{meaning, row_at, owner_of, is_attached_at}
@@ -40,9 +40,9 @@ use Rattle.cell_world.proofs.MeaningLaws.{same_rows}
 module _ (maps : Maps) (mappings : Mappings) (placed : PlacedAlone mappings) (disjoint : AllDisjoint mappings) (spans : (q : Piece) → HasPiece mappings q → IsSpanOf maps q.map q.span)
     (p : Piece) (spanned : IsSpanOf maps p.map p.span) (free : (q : Piece) → HasPiece mappings q → q.map ≡ p.map → IsTrue (overlaps p.span q.span) → ⊥) where
   abbrev pub with_piece : Mappings
-  with_piece = map.insert mappings (place_of p) p
+  with_piece = map.insert mappings (piece_key p) p
 
-  elsewhere : (q : Piece) → HasPiece mappings q → place_of q ≢ place_of p
+  elsewhere : (q : Piece) → HasPiece mappings q → piece_key q ≢ piece_key p
   elsewhere q h e =
       let span = spans q h in
       let low : contains q.span (low_of p.span) ≡ true = subst (λ l. contains q.span l ≡ true) (ap (λ k. k.1) e) (holds_low span.0 span.1 q.span span.3) in
@@ -50,17 +50,17 @@ module _ (maps : Maps) (mappings : Mappings) (placed : PlacedAlone mappings) (di
 
   -- what stood stands
   pub stands_after : (q : Piece) → HasPiece mappings q → HasPiece with_piece q
-  stands_after q h = get-insert_other pairs_total exact_text_pairs mappings (place_of p) p (place_of q) (elsewhere q h) ∙ h
+  stands_after q h = get-insert_other pairs_total exact_text_pairs mappings (piece_key p) p (piece_key q) (elsewhere q h) ∙ h
 
   -- what stands is the new one, or stood
   pub stood_before : (q : Piece) → HasPiece with_piece q → (q ≡ p) ⊎ HasPiece mappings q
   stood_before q h = ⊎_elim
       (λ c. inl (let both : Some q ≡ Some p = sym h ∙ c.1 in let is : q ≡ p = cc in is))
       (λ e. inr (sym e ∙ h))
-      (get-insert_cases pairs_total exact_text_pairs mappings (place_of p) p (place_of q))
+      (get-insert_cases pairs_total exact_text_pairs mappings (piece_key p) p (piece_key q))
 
   pub placed_after : PlacedAlone with_piece
-  placed_after = keyed-insert pairs_total place_of exact_text_pairs mappings p placed
+  placed_after = keyed-insert pairs_total piece_key exact_text_pairs mappings p placed
 
   pub disjoint_after : AllDisjoint with_piece
   disjoint_after a b h g = by (stood_before a h) (stood_before b g)
@@ -152,5 +152,5 @@ module _ (image : Image) (sound : Sound image) (op : Op) (p : Piece) (lawful : L
       by None e = nothing (owner_of after row.map row.key) e ∙ sym (ap (option_and_then found) e)
 
   -- The meaning gets the mapping, and nothing else.
-  pub add_commits : meaning after ≡ record (meaning image) { mappings = map.insert (global image).mappings (place_of p) p }
+  pub add_commits : meaning after ≡ record (meaning image) { mappings = map.insert (global image).mappings (piece_key p) p }
   add_commits = λ i. record (meaning after) { rows = same_rows after image same_row_at i }

@@ -11,7 +11,7 @@ use Rattle.std.proofs.lemmas.Map.Lookups.{exact_unsigned}
 use Rattle.cell_world.specs.ByteOrder.{byte_cmp}
 use Rattle.cell_world.specs.Orders.{pair_cmp, local_cmp, row_cmp}
 use Rattle.cell_world.specs.Spelled.{IsCell, AreEdits}
-use Rattle.cell_world.specs.Stores.{Store, put, delete, edited, changed, empty_store, cell_at, key_of, Stands, place_of, name_of, IsKeyed, IsStore}
+use Rattle.cell_world.specs.Stores.{Store, put, delete, edited, changed, empty_store, cell_at, own_key, Stands, piece_key, local_key, IsKeyed, IsStore}
 use Rattle.cell_world.specs.declared.operations.Op.{Op}
 use Rattle.cell_world.specs.declared.operations.JobRow.{JobRow}
 use Rattle.cell_world.specs.declared.cells.Cell.{Cell}
@@ -53,30 +53,30 @@ job_number job = job.number
 -- ---- stores
 
 pub keyed_empty : IsKeyed empty_store
-keyed_empty = record { mappings = keyed-empty pairs_total place_of; log = keyed-empty nat_cmp_total op_number; jobs = keyed-empty nat_cmp_total job_number; locals = keyed-empty locals_total name_of }
+keyed_empty = record { mappings = keyed-empty pairs_total piece_key; log = keyed-empty nat_cmp_total op_number; jobs = keyed-empty nat_cmp_total job_number; locals = keyed-empty locals_total local_key }
 
 pub keyed_put : (s : Store) (c : Cell) → IsKeyed s → IsKeyed (put s c)
 keyed_put s (cell.Map name kind type) h = record { mappings = h.mappings; log = h.log; jobs = h.jobs; locals = h.locals }
 keyed_put s (cell.Shard name location) h = record { mappings = h.mappings; log = h.log; jobs = h.jobs; locals = h.locals }
 keyed_put s (cell.Table name table) h = record { mappings = h.mappings; log = h.log; jobs = h.jobs; locals = h.locals }
-keyed_put s (cell.Piece piece) h = record { mappings = keyed-insert pairs_total place_of exact_text_pairs s.mappings piece h.mappings; log = h.log; jobs = h.jobs; locals = h.locals }
+keyed_put s (cell.Piece piece) h = record { mappings = keyed-insert pairs_total piece_key exact_text_pairs s.mappings piece h.mappings; log = h.log; jobs = h.jobs; locals = h.locals }
 keyed_put s (cell.Log op) h = record { mappings = h.mappings; log = keyed-insert nat_cmp_total op_number exact_unsigned s.log op h.log; jobs = h.jobs; locals = h.locals }
 keyed_put s (cell.Job job) h = record { mappings = h.mappings; log = h.log; jobs = keyed-insert nat_cmp_total job_number exact_unsigned s.jobs job h.jobs; locals = h.locals }
 keyed_put s (cell.Counter counters) h = record { mappings = h.mappings; log = h.log; jobs = h.jobs; locals = h.locals }
 keyed_put s (cell.SiteState location state) h = record { mappings = h.mappings; log = h.log; jobs = h.jobs; locals = h.locals }
-keyed_put s (cell.Local row) h = record { mappings = h.mappings; log = h.log; jobs = h.jobs; locals = keyed-insert locals_total name_of exact_locals s.locals row h.locals }
+keyed_put s (cell.Local row) h = record { mappings = h.mappings; log = h.log; jobs = h.jobs; locals = keyed-insert locals_total local_key exact_locals s.locals row h.locals }
 keyed_put s (cell.Row row bytes) h = record { mappings = h.mappings; log = h.log; jobs = h.jobs; locals = h.locals }
 
 pub keyed_delete : (s : Store) (k : CellKey) → IsKeyed s → IsKeyed (delete s k)
 keyed_delete s (at.Map name) h = record { mappings = h.mappings; log = h.log; jobs = h.jobs; locals = h.locals }
 keyed_delete s (at.Shard name location) h = record { mappings = h.mappings; log = h.log; jobs = h.jobs; locals = h.locals }
 keyed_delete s (at.Table name table) h = record { mappings = h.mappings; log = h.log; jobs = h.jobs; locals = h.locals }
-keyed_delete s (at.Piece name low) h = record { mappings = keyed-remove pairs_total place_of s.mappings (name, low) h.mappings; log = h.log; jobs = h.jobs; locals = h.locals }
+keyed_delete s (at.Piece name low) h = record { mappings = keyed-remove pairs_total piece_key s.mappings (name, low) h.mappings; log = h.log; jobs = h.jobs; locals = h.locals }
 keyed_delete s (at.Log number) h = record { mappings = h.mappings; log = keyed-remove nat_cmp_total op_number s.log number h.log; jobs = h.jobs; locals = h.locals }
 keyed_delete s (at.Job number) h = record { mappings = h.mappings; log = h.log; jobs = keyed-remove nat_cmp_total job_number s.jobs number h.jobs; locals = h.locals }
 keyed_delete s at.Counter h = record { mappings = h.mappings; log = h.log; jobs = h.jobs; locals = h.locals }
 keyed_delete s (at.SiteState location) h = record { mappings = h.mappings; log = h.log; jobs = h.jobs; locals = h.locals }
-keyed_delete s (at.Local name low number) h = record { mappings = h.mappings; log = h.log; jobs = h.jobs; locals = keyed-remove locals_total name_of s.locals (name, (low, number)) h.locals }
+keyed_delete s (at.Local name low number) h = record { mappings = h.mappings; log = h.log; jobs = h.jobs; locals = keyed-remove locals_total local_key s.locals (name, (low, number)) h.locals }
 keyed_delete s (at.Row row) h = record { mappings = h.mappings; log = h.log; jobs = h.jobs; locals = h.locals }
 
 pub keyed_edited : (s : Store) (edit : Edit) → IsKeyed s → IsKeyed (edited s edit)
@@ -101,27 +101,27 @@ own_test : (b : Bool) (c d : Cell) → cond b (Some c) None ≡ Some d → c ≡
 own_test true c d e = cc
 own_test false c d e = cc
 
-pub own_key : (s : Store) (k : CellKey) (c : Cell) → IsKeyed s → cell_at s k ≡ Some c → key_of c ≡ k
-own_key s (at.Map name) c h e = sym (ap key_of (some_of (λ v. cell.Map name v.0 v.1) (map.get s.maps name) c e).2)
-own_key s (at.Shard name location) c h e = sym (ap key_of (own_test _ (cell.Shard name location) c e))
-own_key s (at.Table name table) c h e = sym (ap key_of (own_test _ (cell.Table name table) c e))
-own_key s (at.Piece name low) c h e =
+pub stands_under : (s : Store) (k : CellKey) (c : Cell) → IsKeyed s → cell_at s k ≡ Some c → own_key c ≡ k
+stands_under s (at.Map name) c h e = sym (ap own_key (some_of (λ v. cell.Map name v.0 v.1) (map.get s.maps name) c e).2)
+stands_under s (at.Shard name location) c h e = sym (ap own_key (own_test _ (cell.Shard name location) c e))
+stands_under s (at.Table name table) c h e = sym (ap own_key (own_test _ (cell.Table name table) c e))
+stands_under s (at.Piece name low) c h e =
     let f = some_of cell.Piece (map.get s.mappings (name, low)) c e in
-    let at_own : place_of f.0 ≡ (name, low) = own_value place_of _ (name, low) (h.mappings (name, low)) f.0 f.1 in
-    sym (ap key_of f.2) ∙ (λ i. at.Piece (at_own i).0 (at_own i).1)
-own_key s (at.Log number) c h e =
+    let at_own : piece_key f.0 ≡ (name, low) = own_value piece_key _ (name, low) (h.mappings (name, low)) f.0 f.1 in
+    sym (ap own_key f.2) ∙ (λ i. at.Piece (at_own i).0 (at_own i).1)
+stands_under s (at.Log number) c h e =
     let f = some_of cell.Log (map.get s.log number) c e in
-    sym (ap key_of f.2) ∙ ap at.Log (own_value op_number _ number (h.log number) f.0 f.1)
-own_key s (at.Job number) c h e =
+    sym (ap own_key f.2) ∙ ap at.Log (own_value op_number _ number (h.log number) f.0 f.1)
+stands_under s (at.Job number) c h e =
     let f = some_of cell.Job (map.get s.jobs number) c e in
-    sym (ap key_of f.2) ∙ ap at.Job (own_value job_number _ number (h.jobs number) f.0 f.1)
-own_key s at.Counter c h e = sym (ap key_of (some_of cell.Counter s.counter c e).2)
-own_key s (at.SiteState location) c h e = sym (ap key_of (some_of (cell.SiteState location) (map.get s.away location) c e).2)
-own_key s (at.Local name low number) c h e =
+    sym (ap own_key f.2) ∙ ap at.Job (own_value job_number _ number (h.jobs number) f.0 f.1)
+stands_under s at.Counter c h e = sym (ap own_key (some_of cell.Counter s.counter c e).2)
+stands_under s (at.SiteState location) c h e = sym (ap own_key (some_of (cell.SiteState location) (map.get s.away location) c e).2)
+stands_under s (at.Local name low number) c h e =
     let f = some_of cell.Local (map.get s.locals (name, (low, number))) c e in
-    let at_own : name_of f.0 ≡ (name, (low, number)) = own_value name_of _ (name, (low, number)) (h.locals (name, (low, number))) f.0 f.1 in
-    sym (ap key_of f.2) ∙ (λ i. at.Local (at_own i).0 (at_own i).1.0 (at_own i).1.1)
-own_key s (at.Row row) c h e = sym (ap key_of (some_of (cell.Row row) (map.get s.rows row) c e).2)
+    let at_own : local_key f.0 ≡ (name, (low, number)) = own_value local_key _ (name, (low, number)) (h.locals (name, (low, number))) f.0 f.1 in
+    sym (ap own_key f.2) ∙ (λ i. at.Local (at_own i).0 (at_own i).1.0 (at_own i).1.1)
+stands_under s (at.Row row) c h e = sym (ap own_key (some_of (cell.Row row) (map.get s.rows row) c e).2)
 
 -- ---- nothing but cells
 
@@ -142,7 +142,7 @@ put_cases s (cell.Table name table) (at.Table q t) = ⊎_elim
 put_cases s (cell.Piece piece) (at.Piece q low) = ⊎_elim
     (λ c. inl (ap (option_map cell.Piece) c.1))
     (λ e. inr (ap (option_map cell.Piece) e))
-    (get-insert_cases pairs_total exact_text_pairs s.mappings (place_of piece) piece (q, low))
+    (get-insert_cases pairs_total exact_text_pairs s.mappings (piece_key piece) piece (q, low))
 put_cases s (cell.Log op) (at.Log q) = ⊎_elim
     (λ c. inl (ap (option_map cell.Log) c.1))
     (λ e. inr (ap (option_map cell.Log) e))
@@ -159,7 +159,7 @@ put_cases s (cell.SiteState location state) (at.SiteState q) = ⊎_elim
 put_cases s (cell.Local row) (at.Local q low number) = ⊎_elim
     (λ c. inl (ap (option_map cell.Local) c.1))
     (λ e. inr (ap (option_map cell.Local) e))
-    (get-insert_cases locals_total exact_locals s.locals (name_of row) row (q, (low, number)))
+    (get-insert_cases locals_total exact_locals s.locals (local_key row) row (q, (low, number)))
 put_cases s (cell.Row row bytes) (at.Row q) = ⊎_elim
     (λ c. inl (ap (option_map (cell.Row q)) c.1 ∙ ap (λ r. Some (cell.Row r bytes)) c.0))
     (λ e. inr (ap (option_map (cell.Row q)) e))
@@ -211,13 +211,13 @@ pub stands_put : (s : Store) (c d : Cell) → Stands (put s c) d → (c ≡ d) �
 stands_put s c d h = ⊎_elim
     (λ e. inl (let both : Some c ≡ Some d = sym e ∙ h in let is : c ≡ d = cc in is))
     (λ e. inr (sym e ∙ h))
-    (put_cases s c (key_of d))
+    (put_cases s c (own_key d))
 
 pub stands_delete : (s : Store) (k : CellKey) (d : Cell) → Stands (delete s k) d → Stands s d
 stands_delete s k d h = ⊎_elim
     (λ e. let both : None ≡ Some d = sym e ∙ h in let is : Stands s d = cc in is)
     (λ e. sym e ∙ h)
-    (delete_cases s k (key_of d))
+    (delete_cases s k (own_key d))
 
 -- Nothing stands in the empty store.
 pub cell_at-empty : (k : CellKey) → cell_at empty_store k ≡ None
@@ -233,7 +233,7 @@ cell_at-empty (at.Local name low number) = ap (option_map cell.Local) (map.get-e
 cell_at-empty (at.Row row) = ap (option_map (cell.Row row)) (map.get-empty row_cmp row)
 
 pub store_empty : IsStore empty_store
-store_empty = record { keyed = keyed_empty; cells = λ c stands. none_stands c (sym (cell_at-empty (key_of c)) ∙ stands) }
+store_empty = record { keyed = keyed_empty; cells = λ c stands. none_stands c (sym (cell_at-empty (own_key c)) ∙ stands) }
   where
     none_stands : (c : Cell) → None ≡ Some c → IsCell c
     none_stands c e = cc

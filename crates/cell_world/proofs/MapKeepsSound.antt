@@ -13,7 +13,7 @@ use Rattle.cell_world.specs.Stores.{Maps, Mappings, Locals, Rows, IsKeyed, put}
 use Rattle.cell_world.specs.Images.{Image, Place, Global, Shard, global, with_store}
 use Rattle.cell_world.specs.Plain.{Owner, covers, owner_in}
 use Rattle.cell_world.specs.Meaning.{meaning, owner_of, next_job, is_attached_at}
-use Rattle.cell_world.specs.Jobs.{Replace, job_row, Gives, IsBatchEnd}
+use Rattle.cell_world.specs.Jobs.{Replace, table_row, Gives, IsBatchEnd}
 use Rattle.cell_world.specs.Lawful.{read_tables, LawfulOn, IsOfJob, job_of_pieces}
 use Rattle.cell_world.specs.Sound.{Sound, HasPiece, IsSpanOf, IsKeyOf, JobCells, OnlineRows, RowCells, SuspectSite}
 use Rattle.cell_world.specs.declared.operations.Piece.{Piece}
@@ -119,7 +119,7 @@ module _ (image : Image) (sound : Sound image) (name : Text) (kind : MapKind) (t
   keep_step op (Some job) h = record { row = subst gives (sym same_owners) h.row; emptied = h.emptied }
     where
       gives : Owner → Type 0
-      gives own = Gives (IsBatchEnd own job) (job_row own (global image).mappings job) (Replace (listed op.olds) (listed op.news) op.extra)
+      gives own = Gives (IsBatchEnd own job) (table_row own (global image).mappings job) (Replace (listed op.olds) (listed op.news) op.extra)
 
   pub keep_lawful : (op : Op) → LawfulOn (read_tables image) op → LawfulOn (read_tables after) op
   keep_lawful op h = record {

@@ -7,7 +7,7 @@ use Rattle.cell_world.specs.Texts.{Text}
 use Rattle.cell_world.specs.Keys.{same, contains, overlaps}
 use Rattle.cell_world.specs.KeyForms.{is_normal}
 use Rattle.cell_world.specs.Orders.{pair_cmp}
-use Rattle.cell_world.specs.Stores.{Maps, Mappings, place_of}
+use Rattle.cell_world.specs.Stores.{Maps, Mappings, piece_key}
 use Rattle.cell_world.specs.Plain.{covers, owner_in}
 use Rattle.cell_world.specs.Sound.{HasPiece, IsKeyOf}
 use Rattle.cell_world.specs.declared.operations.Piece.{Piece}
@@ -19,7 +19,7 @@ use Rattle.cell_world.proofs.ValueLaws.{value_found, value_there}
 
 -- each mapping stands under its own key
 abbrev pub PlacedAlone : Mappings → Type 0
-PlacedAlone mappings = (k : Text × Text) → IfSome (map.get mappings k) (λ p. place_of p ≡ k)
+PlacedAlone mappings = (k : Text × Text) → IfSome (map.get mappings k) (λ p. piece_key p ≡ k)
 
 -- mappings of one map are disjoint
 abbrev pub AllDisjoint : Mappings → Type 0
@@ -33,7 +33,7 @@ module _ (maps : Maps) (mappings : Mappings) (placed : PlacedAlone mappings) (na
   pub found_stands : (p : Piece) → search_of ≡ Some p → HasPiece mappings p × (p.map ≡ name) × IsTrue (contains p.span key)
   found_stands p g =
       let f = value_found pair_cmp pairs_total (covers name key) mappings p g in
-      let place : place_of p ≡ f.0 = subst (λ o. IfSome o (λ q. place_of q ≡ f.0)) f.1 (placed f.0) in
+      let place : piece_key p ≡ f.0 = subst (λ o. IfSome o (λ q. piece_key q ≡ f.0)) f.1 (placed f.0) in
       let parts = and_parts (same name p.map) (contains p.span key) f.2 in
       (subst (λ k. map.get mappings k ≡ Some p) (sym place) f.1, sym (same_is name p.map parts.0), parts.1)
 
@@ -70,7 +70,7 @@ module _ (maps : Maps) (mappings : Mappings) (placed : PlacedAlone mappings) (na
       passes = and_from (same name p.map) (contains p.span key) (subst (λ n. same n p.map ≡ true) of_map (same_self p.map)) holds
 
       only : (o : Option Piece) → search_of ≡ o → search_of ≡ Some p
-      only None e = let some = value_there pair_cmp pairs_total (covers name key) mappings (place_of p) p has passes in cc
+      only None e = let some = value_there pair_cmp pairs_total (covers name key) mappings (piece_key p) p has passes in cc
       only (Some q) e =
           let f = found_stands q e in
           e ∙ ap Some (disjoint q p f.0 has (f.1 ∙ sym of_map) (overlaps_shared q.span p.span key f.2 holds))

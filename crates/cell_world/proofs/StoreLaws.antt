@@ -9,7 +9,7 @@ use Rattle.std.specs.FinSet.{FinSet}
 use Rattle.std.specs.declared.cmp.Ordering.{Ordering}
 use Rattle.std.proofs.lemmas.Cmp.{nat_list_cmp_total, nat_cmp_total}
 use Rattle.std.proofs.lemmas.Map.Lookups.{exact_unsigned}
-use Rattle.cell_world.specs.Stores.{Store, put, delete, cell_at, key_of, Stands, place_of, name_of}
+use Rattle.cell_world.specs.Stores.{Store, put, delete, cell_at, own_key, Stands, piece_key, local_key}
 use Rattle.cell_world.specs.declared.cells.Cell.{Cell}
 use Rattle.cell_world.specs.declared.cells.Cell.TheVariants as cell
 use Rattle.cell_world.specs.declared.cells.CellKey.{CellKey}
@@ -83,25 +83,25 @@ pub cell_at-put_same : (s : Store) (c : Cell) → Stands (put s c) c
 cell_at-put_same s (cell.Map name kind type) = ap (option_map (λ v. cell.Map name v.0 v.1)) (get-insert_same nat_list_cmp_total s.maps name (kind, type))
 cell_at-put_same s (cell.Shard name location) = ap (λ b. cond b (Some (cell.Shard name location)) None) (contains-insert_same pairs_total s.shards (name, location))
 cell_at-put_same s (cell.Table name table) = ap (λ b. cond b (Some (cell.Table name table)) None) (contains-insert_same pairs_total s.tables (name, table))
-cell_at-put_same s (cell.Piece piece) = ap (option_map cell.Piece) (get-insert_same pairs_total s.mappings (place_of piece) piece)
+cell_at-put_same s (cell.Piece piece) = ap (option_map cell.Piece) (get-insert_same pairs_total s.mappings (piece_key piece) piece)
 cell_at-put_same s (cell.Log op) = ap (option_map cell.Log) (get-insert_same nat_cmp_total s.log op.number op)
 cell_at-put_same s (cell.Job job) = ap (option_map cell.Job) (get-insert_same nat_cmp_total s.jobs job.number job)
 cell_at-put_same s (cell.Counter counters) = refl
 cell_at-put_same s (cell.SiteState location state) = ap (option_map (cell.SiteState location)) (get-insert_same nat_list_cmp_total s.away location state)
-cell_at-put_same s (cell.Local row) = ap (option_map cell.Local) (get-insert_same locals_total s.locals (name_of row) row)
+cell_at-put_same s (cell.Local row) = ap (option_map cell.Local) (get-insert_same locals_total s.locals (local_key row) row)
 cell_at-put_same s (cell.Row row bytes) = ap (option_map (cell.Row row)) (get-insert_same rows_total s.rows row bytes)
 
 -- Under every other key stands what stood there.
-pub cell_at-put_other : (s : Store) (c : Cell) (k : CellKey) → k ≢ key_of c → cell_at (put s c) k ≡ cell_at s k
+pub cell_at-put_other : (s : Store) (c : Cell) (k : CellKey) → k ≢ own_key c → cell_at (put s c) k ≡ cell_at s k
 cell_at-put_other s (cell.Map name kind type) (at.Map q) ne = ap (option_map (λ v. cell.Map q v.0 v.1)) (get-insert_other nat_list_cmp_total exact_texts s.maps name (kind, type) q (λ e. ne (ap at.Map e)))
 cell_at-put_other s (cell.Shard name location) (at.Shard q l) ne = ap (λ b. cond b (Some (cell.Shard q l)) None) (contains-insert_other pairs_total exact_text_pairs s.shards (name, location) (q, l) (λ e. ne (λ i. at.Shard (e i).0 (e i).1)))
 cell_at-put_other s (cell.Table name table) (at.Table q t) ne = ap (λ b. cond b (Some (cell.Table q t)) None) (contains-insert_other pairs_total exact_text_pairs s.tables (name, table) (q, t) (λ e. ne (λ i. at.Table (e i).0 (e i).1)))
-cell_at-put_other s (cell.Piece piece) (at.Piece q low) ne = ap (option_map cell.Piece) (get-insert_other pairs_total exact_text_pairs s.mappings (place_of piece) piece (q, low) (λ e. ne (λ i. at.Piece (e i).0 (e i).1)))
+cell_at-put_other s (cell.Piece piece) (at.Piece q low) ne = ap (option_map cell.Piece) (get-insert_other pairs_total exact_text_pairs s.mappings (piece_key piece) piece (q, low) (λ e. ne (λ i. at.Piece (e i).0 (e i).1)))
 cell_at-put_other s (cell.Log op) (at.Log q) ne = ap (option_map cell.Log) (get-insert_other nat_cmp_total exact_unsigned s.log op.number op q (λ e. ne (ap at.Log e)))
 cell_at-put_other s (cell.Job job) (at.Job q) ne = ap (option_map cell.Job) (get-insert_other nat_cmp_total exact_unsigned s.jobs job.number job q (λ e. ne (ap at.Job e)))
 cell_at-put_other s (cell.Counter counters) at.Counter ne = absurd (ne refl)
 cell_at-put_other s (cell.SiteState location state) (at.SiteState q) ne = ap (option_map (cell.SiteState q)) (get-insert_other nat_list_cmp_total exact_texts s.away location state q (λ e. ne (ap at.SiteState e)))
-cell_at-put_other s (cell.Local row) (at.Local q low number) ne = ap (option_map cell.Local) (get-insert_other locals_total exact_locals s.locals (name_of row) row (q, (low, number)) (λ e. ne (λ i. at.Local (e i).0 (e i).1.0 (e i).1.1)))
+cell_at-put_other s (cell.Local row) (at.Local q low number) ne = ap (option_map cell.Local) (get-insert_other locals_total exact_locals s.locals (local_key row) row (q, (low, number)) (λ e. ne (λ i. at.Local (e i).0 (e i).1.0 (e i).1.1)))
 cell_at-put_other s (cell.Row row bytes) (at.Row q) ne = ap (option_map (cell.Row q)) (get-insert_other rows_total exact_rows s.rows row bytes q (λ e. ne (ap at.Row e)))
 cell_at-put_other s c k ne = refl
 

@@ -1,5 +1,5 @@
 -- The table of a job: its next step, and where its next batch ends.
-use Rattle.std.specs.Prelude.{◌≡◌, ℕ, Bool, true, false, ◌&&◌, not, List, [], ◌∷◌, Option, Some, None, option_and_then, option_map, if◌then◌else◌, find, slice_get, IsTrue, IfSome}
+use Rattle.std.specs.Prelude.{◌≡◌, ℕ, Bool, true, false, ◌&&◌, not, List, [], ◌∷◌, Option, Some, None, option_and_then, option_map, if◌then◌else◌, find, slice_get, IsTrue}
 use Rattle.std.specs.FinMap as map
 use Rattle.cell_world.specs.Texts.{Text}
 use Rattle.cell_world.specs.Keys.{same, below, before, same_end, end_below, lesser_end, low_of, end_of, contains}
@@ -30,17 +30,17 @@ pub data Step : Type 0 where
   Stuck : Step
 
 -- what a row of the table gives
-pub data Row : Type 0 where
-  Fixed : (step : Step) → Row
+pub data TableRow : Type 0 where
+  Always : (step : Step) → TableRow
   -- The step depends on where the batch ends.
-  UpTo : (step : High → Step) → Row
+  UpTo : (step : High → Step) → TableRow
 
-abbrev pub with_end : Row → High → Step
-with_end (Fixed step) end = step
+abbrev pub with_end : TableRow → High → Step
+with_end (Always step) end = step
 with_end (UpTo step) end = step end
 
-abbrev pub or_stuck : Option Row → Row
-or_stuck None = Fixed Stuck
+abbrev pub or_stuck : Option TableRow → TableRow
+or_stuck None = Always Stuck
 or_stuck (Some row) = row
 
 -- ---- the steps that a row can be
@@ -83,11 +83,11 @@ abbrev pub ending_at : Mappings → Text → High → Option Piece
 ending_at mappings name end = find (λ p. same name p.map && ends_at end p.span) (map.values mappings)
 
 -- A mapping ends at the cursor, and its low key is greater than the job's: it is merged with the mapping before it.
-abbrev pub merge_due : Mappings → JobRow → Option Row
+abbrev pub merge_due : Mappings → JobRow → Option TableRow
 merge_due mappings job = option_and_then (λ piece. if below job.low (low_of piece.span) then Some (or_stuck (with_earlier piece)) else None) (ending_at mappings job.map job.cursor)
   where
-    with_earlier : Piece → Option Row
-    with_earlier piece = option_map (λ earlier. Fixed (merge_of earlier piece)) (ending_at mappings job.map (At (low_of piece.span)))
+    with_earlier : Piece → Option TableRow
+    with_earlier piece = option_map (λ earlier. Always (merge_of earlier piece)) (ending_at mappings job.map (At (low_of piece.span)))
 
 -- The batch ends below the mapping's high end: split there. Else the mapping is the batch: take it offline.
 abbrev pub batch_row : JobRow → Piece → High → Step
@@ -99,8 +99,8 @@ batch_row job piece end = cut piece.span end
     cut (Point at) other = Stuck
 
 -- at the mapping that contains the cursor: it begins below it, so it is split there, or the batch begins with it
-abbrev pub at_cursor : JobRow → Text → Piece → Row
-at_cursor job key piece = if below (low_of piece.span) key then Fixed (split_at piece key) else UpTo (batch_row job piece)
+abbrev pub at_cursor : JobRow → Text → Piece → TableRow
+at_cursor job key piece = if below (low_of piece.span) key then Always (split_at piece key) else UpTo (batch_row job piece)
 
 -- the mapping that contains the cursor, which is a key in every phase but at the unbounded end
 abbrev pub cursor_piece : Owner → JobRow → Option Piece
@@ -110,26 +110,26 @@ cursor_piece own job = owner_at job.cursor
     owner_at (At key) = own job.map key
     owner_at Max = None
 
-abbrev pub cursor_row : Owner → JobRow → Row
-cursor_row own job = or_stuck (row_at job.cursor)
+abbrev pub cursor_row : Owner → JobRow → TableRow
+cursor_row own job = or_stuck (row_for job.cursor)
   where
-    row_at : High → Option Row
-    row_at (At key) = option_map (at_cursor job key) (own job.map key)
-    row_at Max = None
+    row_for : High → Option TableRow
+    row_for (At key) = option_map (at_cursor job key) (own job.map key)
+    row_for Max = None
 
-abbrev pub idle_row : Owner → JobRow → Option Row → Row
+abbrev pub idle_row : Owner → JobRow → Option TableRow → TableRow
 idle_row own job (Some merge) = merge
-idle_row own job None = if same_end job.cursor job.high then Fixed Finish else cursor_row own job
+idle_row own job None = if same_end job.cursor job.high then Always Finish else cursor_row own job
 
 -- The table. Idle: the merge that is due; at the end of the range the finish; else a split at the cursor, or at the batch end, or the offline.
 -- Copying leads to the move, and Moved to the online.
-abbrev pub job_row : Owner → Mappings → JobRow → Row
-job_row own mappings job = of_phase job.phase
+abbrev pub table_row : Owner → Mappings → JobRow → TableRow
+table_row own mappings job = of_phase job.phase
   where
-    of_phase : Phase → Row
+    of_phase : Phase → TableRow
     of_phase Idle = idle_row own job (merge_due mappings job)
-    of_phase (Copying end) = or_stuck (option_map (λ piece. Fixed (move_of job piece end)) (cursor_piece own job))
-    of_phase (Moved end) = or_stuck (option_map (λ piece. Fixed (online_of job piece end)) (cursor_piece own job))
+    of_phase (Copying end) = or_stuck (option_map (λ piece. Always (move_of job piece end)) (cursor_piece own job))
+    of_phase (Moved end) = or_stuck (option_map (λ piece. Always (online_of job piece end)) (cursor_piece own job))
 
 -- ---- the batch end
 
@@ -178,16 +178,20 @@ batch_end own rows job = at job.cursor
 
 -- The next step of a job, read on the plain state.
 abbrev pub job_step : PlainState → JobRow → Step
-job_step s job = with_end (job_row (owner s) s.mappings job) (batch_end (owner s) s.rows job)
+job_step s job = with_end (table_row (owner s) s.mappings job) (batch_end (owner s) s.rows job)
 
 -- ---- steps to another end
 
--- An end that a batch may have: above the cursor, and at most the lesser of the job's end and the high end of the mapping that contains the cursor.
+-- An end that a batch may have.
 pub record IsBatchEnd (own : Owner) (job : JobRow) (end : High) : Type 0 where
+  -- it is above the cursor
   pub above : IsTrue (end_below job.cursor end)
-  pub within : IfSome (cursor_piece own job) (λ piece. IsTrue (not (end_below (batch_limit job piece) end)))
+  -- and at most the lesser of the job's end and the high end of the mapping that contains the cursor
+  pub piece : Piece
+  pub owned : cursor_piece own job ≡ Some piece
+  pub within : IsTrue (not (end_below (batch_limit job piece) end))
 
 -- The row gives the step, for some end of the batch where it depends on one.
-abbrev pub Gives : (High → Type 0) → Row → Step → Type 0
-Gives MayEnd (Fixed step) wanted = step ≡ wanted
+abbrev pub Gives : (High → Type 0) → TableRow → Step → Type 0
+Gives MayEnd (Always step) wanted = step ≡ wanted
 Gives MayEnd (UpTo step) wanted = (end : High) × MayEnd end × (step end ≡ wanted)

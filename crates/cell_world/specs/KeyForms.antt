@@ -130,11 +130,11 @@ abbrev pub guid_bytes : Text → Option Text
 guid_bytes = grouped_bytes (4 ∷ 2 ∷ 2 ∷ 2 ∷ 6 ∷ [])
 
 -- the places in the text's bytes from which the bytes of the normal form come
-abbrev pub guid_places : List ℕ
-guid_places = 10 ∷ 11 ∷ 12 ∷ 13 ∷ 14 ∷ 15 ∷ 8 ∷ 9 ∷ 7 ∷ 6 ∷ 5 ∷ 4 ∷ 3 ∷ 2 ∷ 1 ∷ 0 ∷ []
+abbrev pub guid_order : List ℕ
+guid_order = 10 ∷ 11 ∷ 12 ∷ 13 ∷ 14 ∷ 15 ∷ 8 ∷ 9 ∷ 7 ∷ 6 ∷ 5 ∷ 4 ∷ 3 ∷ 2 ∷ 1 ∷ 0 ∷ []
 
 abbrev pub guid_form : Text → Text
-guid_form bytes = map (slice_index bytes) guid_places
+guid_form bytes = map (slice_index bytes) guid_order
 
 -- ---- which key a word is
 

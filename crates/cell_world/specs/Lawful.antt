@@ -8,11 +8,11 @@ use Rattle.cell_world.specs.Lists.{IsOneOf}
 use Rattle.cell_world.specs.Keys.{same, contains, overlaps, is_among}
 use Rattle.cell_world.specs.KeyForms.{is_span_of}
 use Rattle.cell_world.specs.Spelled.{listed, has_first}
-use Rattle.cell_world.specs.Stores.{Maps, Shards, Mappings, Jobs, AwaySites, Rows, place_of}
+use Rattle.cell_world.specs.Stores.{Maps, Shards, Mappings, Jobs, AwaySites, Rows, piece_key}
 use Rattle.cell_world.specs.Images.{Image, Shard, global}
 use Rattle.cell_world.specs.Plain.{Owner, owner_in, is_attached}
 use Rattle.cell_world.specs.Operations.{hull_of, sites_of}
-use Rattle.cell_world.specs.Jobs.{Replace, job_row, Gives, IsBatchEnd}
+use Rattle.cell_world.specs.Jobs.{Replace, table_row, Gives, IsBatchEnd}
 use Rattle.cell_world.specs.declared.operations.Piece.{Piece}
 use Rattle.cell_world.specs.declared.operations.Op.{Op}
 use Rattle.cell_world.specs.declared.operations.JobRow.{JobRow}
@@ -29,13 +29,13 @@ use Rattle.cell_world.specs.declared.spans.Span.TheVariants.{Range}
 
 -- the parts of an image on which it depends whether an operation is lawful
 pub record ReadTables : Type 0 where
-  pub locations : List Text
-  pub maps : Maps
-  pub shards : Shards
-  pub mappings : Mappings
-  pub jobs : Jobs
-  pub away : AwaySites
-  pub rows_at : Text → Rows  -- by location
+  pub locations : List Text  -- those of the world
+  pub maps : Maps  -- the global store's
+  pub shards : Shards  -- its
+  pub mappings : Mappings  -- its
+  pub jobs : Jobs  -- its
+  pub away : AwaySites  -- its: the sites that are not attached
+  pub rows_at : Text → Rows  -- by location: the shard's row cells
 
 abbrev pub rows_at : Image → Text → Rows
 rows_at image location = (image.at (Shard location)).rows
@@ -53,8 +53,8 @@ read_tables image = record {
 
 -- the world knows the location, and its site is attached
 pub record IsAttached (locations : List Text) (away : AwaySites) (location : Text) : Type 0 where
-  pub known : IsTrue (is_among locations location)
-  pub attached : IsTrue (is_attached (map.get away location))
+  pub known : IsTrue (is_among locations location)  -- one of the world's locations
+  pub attached : IsTrue (is_attached (map.get away location))  -- without a site state cell
 
 -- ---- shapes
 
@@ -74,14 +74,17 @@ Cuts whole low high = (key : Text) × (from : Text) × (to : High) × (whole.spa
 
 -- the new mapping differs from the old one in status alone
 pub record TurnsStatus (old new : Piece) : Type 0 where
-  pub other : new.status ≢ old.status
+  pub other : new.status ≢ old.status  -- online becomes offline, or the other way
   pub rest : new ≡ record old { status = new.status }
 
 -- the old mapping is offline, the new one differs from it in location alone, and under the span the new site has just the rows that the old one has
 pub record Moves (rows : Text → Rows) (old new : Piece) : Type 0 where
+  -- the mapping is offline
   pub offline : old.status ≡ Offline
+  -- it goes to another location, and keeps all else
   pub elsewhere : new.location ≢ old.location
   pub rest : new ≡ record old { location = new.location }
+  -- where its rows are already
   pub same_rows : rows_under (rows new.location) old.map old.span ≡ rows_under (rows old.location) old.map old.span
 
 -- What the olds and the news are to each other.
@@ -92,9 +95,9 @@ HasShape rows [] (new ∷ []) = (new.status ≡ Online) × (new.token ≡ None)
 HasShape rows (old ∷ []) [] = (old.status ≡ Offline) × (rows_under (rows old.location) old.map old.span ≡ map.empty)
 -- status, or move
 HasShape rows (old ∷ []) (new ∷ []) = TurnsStatus old new ⊎ Moves rows old new
--- split
+-- split, the lower part first
 HasShape rows (old ∷ []) (low ∷ high ∷ []) = Cuts old low high
--- merge
+-- merge, the lower one first
 HasShape rows (low ∷ high ∷ []) (new ∷ []) = Cuts new low high
 -- there is no other shape
 HasShape rows olds news = ⊥
@@ -121,7 +124,9 @@ IsEmptied rows job other olds = Unit {0}
 
 -- The operation is the next row of the job's table, for some end of the batch where the row depends on it.
 pub record IsStepOf (t : ReadTables) (job : JobRow) (op : Op) : Type 0 where
-  pub row : Gives (IsBatchEnd (owner_in t.maps t.mappings) job) (job_row (owner_in t.maps t.mappings) t.mappings job) (Replace (listed op.olds) (listed op.news) op.extra)
+  -- it is what the row of the table gives
+  pub row : Gives (IsBatchEnd (owner_in t.maps t.mappings) job) (table_row (owner_in t.maps t.mappings) t.mappings job) (Replace (listed op.olds) (listed op.news) op.extra)
+  -- and before an online the source is emptied
   pub emptied : IsEmptied t.rows_at job job.phase (listed op.olds)
 
 -- Where no old mapping has a standing job's token the operation puts no job.
@@ -135,9 +140,10 @@ pub record LawfulOn (t : ReadTables) (op : Op) : Type 0 where
   -- the map stands
   pub map_stands : IsSome (map.get t.maps op.map)
   -- each old is one of its mappings, in all fields
-  pub olds_stand : AllByRecursion (λ old. map.get t.mappings (place_of old) ≡ Some old) (listed op.olds)
+  pub olds_stand : AllByRecursion (λ old. map.get t.mappings (piece_key old) ≡ Some old) (listed op.olds)
+  -- olds and news are of its map
   pub of_map : AllByRecursion (λ p. p.map ≡ op.map) (listed op.olds ++ listed op.news)
-  -- of two pieces the lower is the first, so there is a second only beside a first
+  -- a second old, and a second new, stands only beside a first
   pub olds_in_order : IsTrue (has_first op.olds)
   pub news_in_order : IsTrue (has_first op.news)
   -- every site of the operation is attached
@@ -149,7 +155,7 @@ pub record LawfulOn (t : ReadTables) (op : Op) : Type 0 where
   -- they are disjoint
   pub disjoint : AreDisjoint (listed op.news)
   -- they overlap no mapping that isn't an old
-  pub free : (other : Piece) → map.get t.mappings (place_of other) ≡ Some other → other.map ≡ op.map
+  pub free : (other : Piece) → map.get t.mappings (piece_key other) ≡ Some other → other.map ≡ op.map
       → IsTrue (list_any (λ new. overlaps new.span other.span) (listed op.news)) → IsOneOf (listed op.olds) other
   -- the hull is the least span over olds and news
   pub hull : hull_of (listed op.olds ++ listed op.news) ≡ Some op.hull

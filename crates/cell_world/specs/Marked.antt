@@ -5,11 +5,12 @@ use Rattle.std.specs.FinMap as map
 use Rattle.cell_world.specs.Texts.{Text}
 use Rattle.cell_world.specs.Keys.{overlaps}
 use Rattle.cell_world.specs.Spelled.{listed}
-use Rattle.cell_world.specs.Stores.{Log, Locals, Mappings, exchanged}
+use Rattle.cell_world.specs.Stores.{Log, Locals, Mappings, AwaySites, exchanged}
 use Rattle.cell_world.specs.Images.{Image, Shard, global}
 use Rattle.cell_world.specs.Meaning.{is_logged, next_operation}
 use Rattle.cell_world.specs.Operations.{sites_of}
-use Rattle.cell_world.specs.Sound.{HasLog, HasLocal, Matches, IsAttachedIn}
+use Rattle.cell_world.specs.Lawful.{IsAttached}
+use Rattle.cell_world.specs.Sound.{HasLog, HasLocal, Matches}
 use Rattle.cell_world.specs.declared.operations.Op.{Op}
 use Rattle.cell_world.specs.declared.operations.Piece.{Piece}
 use Rattle.cell_world.specs.declared.operations.StageName.{StageName}
@@ -45,9 +46,26 @@ pub record MarkedAt (log : Log) (op : Op) (location : Text) (locals : Locals) : 
   -- no other mark there that overlaps the hull is of an operation out of the log
   pub others : (row : LocalRow) → HasLocal locals row → row.map ≡ op.map → IsTrue (overlaps row.span op.hull) → IsTrue (is_mark_of log row row.mark)
 
+-- the parts of an image on which it depends how far an operation has come
+pub record MarkTables : Type 0 where
+  pub locations : List Text  -- those of the world
+  pub away : AwaySites  -- the sites that are not attached
+  pub log : Log  -- the operations that are not committed
+  pub next : ℕ  -- the next operation number
+  pub locals_at : Text → Locals  -- by location: the shard's local rows
+
+abbrev pub mark_tables : Image → MarkTables
+mark_tables image = record {
+  locations = image.locations;
+  away = (global image).away;
+  log = (global image).log;
+  next = next_operation image;
+  locals_at = λ location. (image.at (Shard location)).locals;
+}
+
 -- so at the sites of these mappings
-abbrev pub MarkedAtAll : Image → Op → List Piece → Type 0
-MarkedAtAll image op pieces = AllByRecursion (λ p. MarkedAt (global image).log op p.location (image.at (Shard p.location)).locals) pieces
+abbrev pub MarkedAtAll : MarkTables → Op → List Piece → Type 0
+MarkedAtAll t op pieces = AllByRecursion (λ p. MarkedAt t.log op p.location (t.locals_at p.location)) pieces
 
 -- ---- stages
 
@@ -56,21 +74,24 @@ abbrev pub HasNoMark : Op → Locals → Type 0
 HasNoMark op locals = (row : LocalRow) → HasLocal locals row → (row.mark ≢ Old op.number) × (IsNew op.number row → ⊥)
 
 -- no log row of the operation stands, and its number was given
-abbrev pub IsOutOfLog : Image → Op → Type 0
-IsOutOfLog image op = (map.get (global image).log op.number ≡ None) × (op.number < next_operation image)
+abbrev pub IsOutOfLog : MarkTables → Op → Type 0
+IsOutOfLog t op = (map.get t.log op.number ≡ None) × (op.number < t.next)
+
+abbrev pub MarkedOn : MarkTables → Op → StageName → Type 0
+-- its log row is the operation
+MarkedOn t op Logged = HasLog t.log op
+-- besides, the site of the olds is marked
+MarkedOn t op SourceDone = HasLog t.log op × MarkedAtAll t op (listed op.olds)
+-- so is the other site of the news
+MarkedOn t op TargetDone = HasLog t.log op × MarkedAtAll t op (listed op.olds) × MarkedAtAll t op (listed op.news)
+-- it is out of the log
+MarkedOn t op Committed = IsOutOfLog t op
+-- besides, at each attached site of the operation no row has its mark
+MarkedOn t op Settled = IsOutOfLog t op × AllByRecursion (λ location. IsAttached t.locations t.away location → HasNoMark op (t.locals_at location)) (sites_of op)
 
 -- The operation has come to the stage.
 abbrev pub Marked : Image → Op → StageName → Type 0
--- its log row is the operation
-Marked image op Logged = HasLog (global image).log op
--- besides, the site of the olds is marked
-Marked image op SourceDone = HasLog (global image).log op × MarkedAtAll image op (listed op.olds)
--- so is the other site of the news
-Marked image op TargetDone = HasLog (global image).log op × MarkedAtAll image op (listed op.olds) × MarkedAtAll image op (listed op.news)
--- it is out of the log
-Marked image op Committed = IsOutOfLog image op
--- besides, at each attached site of the operation no row has its mark
-Marked image op Settled = IsOutOfLog image op × AllByRecursion (λ location. IsAttachedIn image location → HasNoMark op (image.at (Shard location)).locals) (sites_of op)
+Marked image op stage = MarkedOn (mark_tables image) op stage
 
 -- What the step to Committed does to the mappings: the news stand for the olds.
 abbrev pub IsReplaced : Mappings → Op → Mappings → Type 0

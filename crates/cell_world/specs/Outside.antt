@@ -1,11 +1,11 @@
 -- What a world tells of itself, and what its calls do.
-use Rattle.std.specs.Prelude.{◌≡◌, ℕ, ◌+◌, ◌-◌, ◌<◌, ◌≤◌, Bool, true, false, ◌==◌, List, [], length, take, drop, Option, Some, None, IsSome, Result, Ok, Err, option_map, slice_get, position, unwrap_or, IsErrOf, if◌then◌else◌}
-use Rattle.std.specs.List.{IsDistinct}
-use Rattle.cell_world.specs.Texts.{Text}
+use Rattle.std.specs.Prelude.{◌≡◌, ℕ, ◌+◌, ◌-◌, ◌≤◌, Bool, true, ◌==◌, List, [], length, take, drop, Option, Some, None, IsSome, Result, Ok, Err, option_map, slice_get, position, unwrap_or, IsErrOf, IsTrue, if◌then◌else◌}
+use Rattle.std.specs.List.{IsDistinct, AllByRecursion}
+use Rattle.cell_world.specs.Texts.{Text, is_location}
 use Rattle.cell_world.specs.Keys.{same}
 use Rattle.cell_world.specs.Stores.{Store, IsStore, empty_store}
 use Rattle.cell_world.specs.Images.{Image, Place, Global, Shard, Happening, Committed, Wrote, Reopened, Trail, IsImage, after_one, image_at, end_of_trail, extended}
-use Rattle.cell_world.specs.Counts.{last_count, one_more, Rose, NeverFall}
+use Rattle.cell_world.specs.Counts.{last_count, one_more, Rose, StoreRose, NeverFall}
 use Rattle.cell_world.specs.declared.cells.Site.{Site}
 use Rattle.cell_world.specs.declared.changes.Edit.{Edit}
 use Rattle.cell_world.specs.declared.outside.WorldError.{WorldError}
@@ -40,7 +40,7 @@ told_after (TellsTrail trail) h = TellsTrail (extended trail h)
 
 pub record Outside : Type 0 where
   pub locations : List Text  -- the first has site 1, the next site 2, and so on; site 0 is the global store
-  pub told : Told
+  pub told : Told  -- of its contents and its trail
   pub faults_at : ℕ → ℕ  -- by site: how often calls at it have failed
   pub sink_faults : ℕ  -- how often writing has failed
   pub global_reads : ℕ  -- how often site 0 was read
@@ -69,7 +69,9 @@ OfStore o site P = IfContents o.told (λ image. P (store_at o site image))
 
 -- The same but for counts of faults, none of which fell.
 pub record Same (old new : Outside) : Type 0 where
+  -- nothing else differs
   pub same : new ≡ record old { faults_at = new.faults_at; sink_faults = new.sink_faults }
+  -- no site's count fell, nor the sink's
   pub faults : NeverFall old.faults_at new.faults_at
   pub sink : old.sink_faults ≤ new.sink_faults
 
@@ -84,9 +86,9 @@ happens o h = record o { told = told_after o.told h }
 abbrev pub happens_at : Outside → Site → (Place → Happening) → Outside
 happens_at o site h = unwrap_or (option_map (λ place. happens o (h place)) (place_at o.locations site.0)) o
 
--- a failure's count rose
-abbrev pub HasCause : {T : Type 0} → Result T WorldError → ℕ → ℕ → Type 0
-HasCause result old new = IsErrOf result Failed → Rose old new
+-- a call failed only where its count rose
+abbrev pub FailsWithRise : {T : Type 0} → Result T WorldError → ℕ → ℕ → Type 0
+FailsWithRise result old new = IsErrOf result Failed → Rose old new
 
 -- Ok: the change is made. Failed: it is made or not made, and the trail says which. Memory: it isn't made.
 abbrev pub Commits : Outside → Outside → Site → List Edit → Result (Unit {0}) WorldError → Type 0
@@ -105,6 +107,10 @@ abbrev pub Reopens : Outside → Outside → Site → Result (Unit {0}) WorldErr
 Reopens old new site (Ok done) = (cells : Store) × IsStore cells × Same (happens_at old site (λ place. Reopened place cells)) new
 Reopens old new site (Err error) = Same old new
 
+-- The store count, over all sites of the world, rose by at least this number.
+abbrev pub StoreRoseBy : ℕ → Outside → Outside → Type 0
+StoreRoseBy by old new = StoreRose (length old.locations + 1) by old.faults_at new.faults_at
+
 -- ---- laws of every world
 
 -- nothing but cells stands in what is told, at whatever moment
@@ -121,30 +127,32 @@ IsOver locations (TellsTrail trail) = trail.start.locations ≡ locations
 
 pub record IsWorld (o : Outside) : Type 0 where
   -- the locations are distinct, and at most 64
+  pub spelled : AllByRecursion (λ location. IsTrue (is_location location)) o.locations
   pub distinct : IsDistinct same o.locations
   pub few : length o.locations ≤ 64
   -- each count is kept in 64 bits
   pub faults : (site : ℕ) → o.faults_at site ≤ last_count
   pub sink : o.sink_faults ≤ last_count
   pub reads : o.global_reads ≤ last_count
+  -- what is told is over these locations
   pub over : IsOver o.locations o.told
+  -- and nothing but cells stands there
   pub cells : TellsCells o.told
 
 -- what is so of a world that was just made
 pub record IsNewWorld (o : Outside) : Type 0 where
-  pub faults : (site : ℕ) → o.faults_at site ≡ 0
-  pub sink : o.sink_faults ≡ 0
-  pub reads : o.global_reads ≡ 0
+  pub faults : (site : ℕ) → o.faults_at site ≡ 0  -- no call at a site has failed
+  pub sink : o.sink_faults ≡ 0  -- no writing has
+  pub reads : o.global_reads ≡ 0  -- the global store wasn't read
 
 -- ---- sources
 
 -- The first n bytes of what is left, where it is told, are moved into the front of the buffer: at most its length, and none exactly where nothing is left.
 pub record TakesFront (n : ℕ) (left : Text) (after : Option Text) (buffer : Text) : Type 0 where
-  pub front : take n buffer ≡ take n left
-  pub rest : after ≡ Some (drop n left)
-  pub within : n ≤ length left
-  pub none : n ≡ 0 → left ≡ []
-  pub some : 0 < length left → 0 < n
+  pub front : take n buffer ≡ take n left  -- they stand in front
+  pub rest : after ≡ Some (drop n left)  -- and are no more left
+  pub within : n ≤ length left  -- no more than there are
+  pub none : n ≡ 0 → left ≡ []  -- none only at the end
 
 abbrev pub Takes : ℕ → Option Text → Option Text → Text → Type 0
 Takes n None after buffer = after ≡ None

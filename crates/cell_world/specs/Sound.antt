@@ -1,6 +1,5 @@
--- Which images a run may leave: the sound ones. Nothing is said of the cells of a detached site.
-use Rattle.std.specs.Prelude.{◌≡◌, ◌≢◌, ◌⊎◌, ℕ, ◌<◌, ◌≤◌, ◌^◌, Bool, true, false, not, List, Option, Some, None, IfSome, IsTrue, IsSome, nat_lt}
-use Rattle.std.specs.List.{list_any}
+-- Which images a run may leave: the sound ones. Of the cells of a detached site nothing is said but that each stands under its own key.
+use Rattle.std.specs.Prelude.{◌≡◌, ◌≢◌, ◌⊎◌, ℕ, ◌<◌, ◌≤◌, ◌^◌, Bool, true, not, List, Option, Some, None, IfSome, IsTrue, IsSome, nat_lt}
 use Rattle.std.specs.FinMap as map
 use Rattle.std.specs.FinSet as set
 use Rattle.cell_world.specs.Texts.{Text}
@@ -8,7 +7,7 @@ use Rattle.cell_world.specs.Lists.{SomeOf}
 use Rattle.cell_world.specs.Keys.{contains, overlaps, low_of, before, end_below, is_among}
 use Rattle.cell_world.specs.KeyForms.{is_normal, is_normal_end, is_span_of}
 use Rattle.cell_world.specs.Spelled.{listed}
-use Rattle.cell_world.specs.Stores.{Store, Maps, Shards, Tables, Mappings, Log, Jobs, AwaySites, Locals, Rows, IsKeyed, place_of, name_of}
+use Rattle.cell_world.specs.Stores.{Store, Maps, Shards, Tables, Mappings, Log, Jobs, AwaySites, Locals, Rows, IsKeyed, piece_key, local_key}
 use Rattle.cell_world.specs.Images.{Image, Place, Shard, global}
 use Rattle.cell_world.specs.Plain.{Owner, owner_in}
 use Rattle.cell_world.specs.Meaning.{counts, counters_of, next_operation, next_job, owner_of}
@@ -21,20 +20,18 @@ use Rattle.cell_world.specs.declared.operations.Phase.{Phase}
 use Rattle.cell_world.specs.declared.operations.Phase.TheVariants.{Idle, Copying, Moved}
 use Rattle.cell_world.specs.declared.cells.LocalRow.{LocalRow}
 use Rattle.cell_world.specs.declared.cells.RowName.{RowName}
-use Rattle.cell_world.specs.declared.cells.Counters.{Counters}
 use Rattle.cell_world.specs.declared.cells.MapKind.{MapKind}
 use Rattle.cell_world.specs.declared.cells.MapKind.TheVariants as kind
 use Rattle.cell_world.specs.declared.cells.KeyType.{KeyType}
 use Rattle.cell_world.specs.declared.cells.Away.TheVariants as away
-use Rattle.cell_world.specs.declared.cells.Token.{Token}
 use Rattle.cell_world.specs.declared.cells.Mark.{Mark}
 use Rattle.cell_world.specs.declared.cells.Mark.TheVariants.{Plain, Old, New}
 use Rattle.cell_world.specs.declared.cells.Status.{Status}
 use Rattle.cell_world.specs.declared.cells.Status.TheVariants.{Online, Offline}
 use Rattle.cell_world.specs.declared.spans.High.{High}
-use Rattle.cell_world.specs.declared.spans.High.TheVariants.{At, Max}
+use Rattle.cell_world.specs.declared.spans.High.TheVariants.{At}
 use Rattle.cell_world.specs.declared.spans.Span.{Span}
-use Rattle.cell_world.specs.declared.spans.Span.TheVariants.{Range, Point}
+use Rattle.cell_world.specs.declared.spans.Span.TheVariants.{Range}
 
 -- ---- what stands, each under its own key
 
@@ -48,7 +45,7 @@ abbrev pub HasTable : Tables → Text → Text → Type 0
 HasTable tables name table = IsTrue (set.contains tables (name, table))
 
 abbrev pub HasPiece : Mappings → Piece → Type 0
-HasPiece mappings p = map.get mappings (place_of p) ≡ Some p
+HasPiece mappings p = map.get mappings (piece_key p) ≡ Some p
 
 abbrev pub HasLog : Log → Op → Type 0
 HasLog log op = map.get log op.number ≡ Some op
@@ -57,7 +54,7 @@ abbrev pub HasJob : Jobs → JobRow → Type 0
 HasJob jobs job = map.get jobs job.number ≡ Some job
 
 abbrev pub HasLocal : Locals → LocalRow → Type 0
-HasLocal locals row = map.get locals (name_of row) ≡ Some row
+HasLocal locals row = map.get locals (local_key row) ≡ Some row
 
 abbrev pub HasRow : Rows → RowName → Type 0
 HasRow rows row = IsSome (map.get rows row)
@@ -102,9 +99,9 @@ pub record LogCells (t : ReadTables) (log : Log) (next : ℕ) : Type 0 where
 
 -- the row says of the mapping what a shard keeps of it
 pub record Matches (row : LocalRow) (p : Piece) : Type 0 where
-  pub map : row.map ≡ p.map
-  pub span : row.span ≡ p.span
-  pub status : row.status ≡ p.status
+  pub map : row.map ≡ p.map  -- the same map
+  pub span : row.span ≡ p.span  -- the same keys
+  pub status : row.status ≡ p.status  -- the same status
 
 -- a mark of a logged operation is on the row of one of its olds at the site, or on a row made as one of its news there
 abbrev pub IsMarked : Log → Text → LocalRow → Mark → Type 0
@@ -120,8 +117,9 @@ mark_below next New = true
 pub record LocalCells (mappings : Mappings) (log : Log) (next : ℕ) (location : Text) (locals : Locals) : Type 0 where
   -- the counted ones are, in map, span and status, exactly the mappings at the site
   pub counted : (row : LocalRow) → HasLocal locals row → counts log row ≡ true → (p : Piece) × HasPiece mappings p × (p.location ≡ location) × Matches row p
+  -- and each of these has one
   pub each : (p : Piece) → HasPiece mappings p → p.location ≡ location → (row : LocalRow) × HasLocal locals row × (counts log row ≡ true) × Matches row p
-  -- one for each
+  -- and no more than one
   pub once : (a b : LocalRow) → HasLocal locals a → HasLocal locals b → counts log a ≡ true → counts log b ≡ true → a.map ≡ b.map → low_of a.span ≡ low_of b.span → a ≡ b
   -- each mark of a logged operation is on the row of an old, or on a row made as a new, of it at the site
   pub marks : (row : LocalRow) → HasLocal locals row → IsMarked log location row row.mark
@@ -158,11 +156,16 @@ IsSiteOfJob location job = (location ≡ job.source) ⊎ (location ≡ job.targe
 
 -- a job of the map is in progress that has the location as source or target, and the key is in its batch
 pub record IsBeingMoved (maps : Maps) (jobs : Jobs) (name key location : Text) : Type 0 where
+  -- a job stands
   pub job : JobRow
   pub stands : HasJob jobs job
+  -- of this map
   pub of_map : job.map ≡ name
+  -- that has this site as source or target
   pub at_site : IsSiteOfJob location job
+  -- the key is from its cursor up to the end of its batch
   pub in_batch : InBatch job key
+  -- and a normal form of the map's key type
   pub of_type : IsKeyOf maps name key
 
 pub record RowCells (maps : Maps) (tables : Tables) (own : Owner) (jobs : Jobs) (location : Text) (rows : Rows) : Type 0 where
@@ -221,7 +224,7 @@ pub record BatchAt (mappings : Mappings) (job : JobRow) (end : High) (location :
   pub of_map : piece.map ≡ job.map
   pub span : piece.span ≡ Range low end
   pub offline : piece.status ≡ Offline
-  pub place : piece.location ≡ location
+  pub at_site : piece.location ≡ location
 
 -- in Copying it is at the source and in Moved at the target, and both sites are attached
 abbrev pub IsBatch : List Text → AwaySites → Mappings → JobRow → Phase → Type 0
@@ -274,19 +277,22 @@ IsSuspectIn image location = IsTrue (is_among image.locations location) × (map.
 pub record Sound (image : Image) : Type 0 where
   -- each cell stands under its own key
   pub keyed : (place : Place) → IsKeyed (image.at place)
-  -- (a) global cells
+  -- (a) global cells, and of these the log cells
   pub globals : GlobalCells (global image)
   pub logged : LogCells (read_tables image) (global image).log (next_operation image)
   -- (b) local cells of an attached site
   pub locals : (location : Text) → IsAttachedIn image location → LocalCells (global image).mappings (global image).log (next_operation image) location (image.at (Shard location)).locals
   -- (c) online rows of an attached site
   pub online : (location : Text) → IsAttachedIn image location → OnlineRows (global image).maps (owner_of image) (global image).log location (image.at (Shard location)).locals
-  -- (d) row cells of an attached site, and those of a batch in progress
+  -- (d) row cells of an attached site
   pub rows : (location : Text) → IsAttachedIn image location → RowCells (global image).maps (global image).tables (owner_of image) (global image).jobs location (image.at (Shard location)).rows
+  -- and the rows of each job's batch at its two sites
   pub batches : (job : JobRow) → HasJob (global image).jobs job → BatchRows job job.phase (image.at (Shard job.source)).rows (image.at (Shard job.target)).rows
   -- (e) suspect sites
   pub suspect : (location : Text) → IsSuspectIn image location → SuspectSite (global image).maps (global image).shards location (image.at (Shard location)).locals
-  -- (f) jobs
+  -- (f) each job: its range and cursor, and who owns its keys
   pub jobs : (job : JobRow) → HasJob (global image).jobs job → JobCells (global image).maps (global image).shards (global image).mappings (next_job image) job
+  -- its batch in progress
   pub progress : (job : JobRow) → HasJob (global image).jobs job → IsBatch image.locations (global image).away (global image).mappings job job.phase
+  -- and each token that is a job's
   pub tokens : JobTokens (global image).mappings (global image).jobs

@@ -67,26 +67,26 @@ Rows = FinMap row_cmp Text
 -- ---- a store
 
 pub record Store : Type 0 where
-  pub maps : Maps
-  pub shards : Shards
-  pub tables : Tables
-  pub mappings : Mappings
-  pub log : Log
-  pub jobs : Jobs
+  pub maps : Maps  -- the global store's, as are the next seven
+  pub shards : Shards  -- which locations are shards of a map
+  pub tables : Tables  -- which tables a map has
+  pub mappings : Mappings  -- who owns which keys
+  pub log : Log  -- the operations that are not committed
+  pub jobs : Jobs  -- the jobs that stand
   pub counter : Option Counters  -- where it is absent the next numbers are 1 and 1
-  pub away : AwaySites
-  pub locals : Locals
-  pub rows : Rows
+  pub away : AwaySites  -- the sites that are not attached
+  pub locals : Locals  -- a shard's own copies of its mappings
+  pub rows : Rows  -- a shard's rows of the sharded tables
 
 abbrev pub empty_store : Store
 empty_store = record { maps = map.empty; shards = set.empty; tables = set.empty; mappings = map.empty; log = map.empty; jobs = map.empty; counter = None; away = map.empty; locals = map.empty; rows = map.empty }
 
 -- the fields under which a mapping and a local row stand
-abbrev pub place_of : Piece → Text × Text
-place_of piece = (piece.map, low_of piece.span)
+abbrev pub piece_key : Piece → Text × Text
+piece_key piece = (piece.map, low_of piece.span)
 
-abbrev pub name_of : LocalRow → Text × (Text × ℕ)
-name_of row = (row.map, (low_of row.span, row.number))
+abbrev pub local_key : LocalRow → Text × (Text × ℕ)
+local_key row = (row.map, (low_of row.span, row.number))
 
 -- ---- changes
 
@@ -94,12 +94,12 @@ abbrev pub put : Store → Cell → Store
 put s (cell.Map name kind type) = record s { maps = map.insert s.maps name (kind, type) }
 put s (cell.Shard name location) = record s { shards = set.insert s.shards (name, location) }
 put s (cell.Table name table) = record s { tables = set.insert s.tables (name, table) }
-put s (cell.Piece piece) = record s { mappings = map.insert s.mappings (place_of piece) piece }
+put s (cell.Piece piece) = record s { mappings = map.insert s.mappings (piece_key piece) piece }
 put s (cell.Log op) = record s { log = map.insert s.log op.number op }
 put s (cell.Job job) = record s { jobs = map.insert s.jobs job.number job }
 put s (cell.Counter counters) = record s { counter = Some counters }
 put s (cell.SiteState location state) = record s { away = map.insert s.away location state }
-put s (cell.Local row) = record s { locals = map.insert s.locals (name_of row) row }
+put s (cell.Local row) = record s { locals = map.insert s.locals (local_key row) row }
 put s (cell.Row name bytes) = record s { rows = map.insert s.rows name bytes }
 
 abbrev pub delete : Store → CellKey → Store
@@ -126,17 +126,17 @@ changed s (edit ∷ edits) = changed (edited s edit) edits
 -- ---- cells
 
 -- the key under which a cell is put
-abbrev pub key_of : Cell → CellKey
-key_of (cell.Map name kind type) = at.Map name
-key_of (cell.Shard name location) = at.Shard name location
-key_of (cell.Table name table) = at.Table name table
-key_of (cell.Piece piece) = at.Piece piece.map (low_of piece.span)
-key_of (cell.Log op) = at.Log op.number
-key_of (cell.Job job) = at.Job job.number
-key_of (cell.Counter counters) = at.Counter
-key_of (cell.SiteState location state) = at.SiteState location
-key_of (cell.Local row) = at.Local row.map (low_of row.span) row.number
-key_of (cell.Row row bytes) = at.Row row
+abbrev pub own_key : Cell → CellKey
+own_key (cell.Map name kind type) = at.Map name
+own_key (cell.Shard name location) = at.Shard name location
+own_key (cell.Table name table) = at.Table name table
+own_key (cell.Piece piece) = at.Piece piece.map (low_of piece.span)
+own_key (cell.Log op) = at.Log op.number
+own_key (cell.Job job) = at.Job job.number
+own_key (cell.Counter counters) = at.Counter
+own_key (cell.SiteState location state) = at.SiteState location
+own_key (cell.Local row) = at.Local row.map (low_of row.span) row.number
+own_key (cell.Row row bytes) = at.Row row
 
 -- the cell that stands under a key
 abbrev pub cell_at : Store → CellKey → Option Cell
@@ -153,14 +153,14 @@ cell_at s (at.Row name) = option_map (cell.Row name) (map.get s.rows name)
 
 -- the cell stands in the store, under its own key
 abbrev pub Stands : Store → Cell → Type 0
-Stands s c = cell_at s (key_of c) ≡ Some c
+Stands s c = cell_at s (own_key c) ≡ Some c
 
 -- Each cell stands under its own key.
 pub record IsKeyed (s : Store) : Type 0 where
-  pub mappings : (k : Text × Text) → IfSome (map.get s.mappings k) (λ p. place_of p ≡ k)
+  pub mappings : (k : Text × Text) → IfSome (map.get s.mappings k) (λ p. piece_key p ≡ k)
   pub log : (k : ℕ) → IfSome (map.get s.log k) (λ op. op.number ≡ k)
   pub jobs : (k : ℕ) → IfSome (map.get s.jobs k) (λ job. job.number ≡ k)
-  pub locals : (k : Text × (Text × ℕ)) → IfSome (map.get s.locals k) (λ row. name_of row ≡ k)
+  pub locals : (k : Text × (Text × ℕ)) → IfSome (map.get s.locals k) (λ row. local_key row ≡ k)
 
 -- Nothing but cells stands in the store, each under its own key.
 pub record IsStore (s : Store) : Type 0 where
@@ -171,11 +171,11 @@ pub record IsStore (s : Store) : Type 0 where
 
 abbrev pub without : Mappings → List Piece → Mappings
 without mappings [] = mappings
-without mappings (old ∷ olds) = without (map.remove mappings (place_of old)) olds
+without mappings (old ∷ olds) = without (map.remove mappings (piece_key old)) olds
 
 abbrev pub with_all : Mappings → List Piece → Mappings
 with_all mappings [] = mappings
-with_all mappings (new ∷ news) = with_all (map.insert mappings (place_of new) new) news
+with_all mappings (new ∷ news) = with_all (map.insert mappings (piece_key new) new) news
 
 -- the mappings with the news in place of the olds
 abbrev pub exchanged : Mappings → List Piece → List Piece → Mappings

@@ -4,7 +4,7 @@ ghost use Rattle.std.specs.FinMap as map;
 ghost use Rattle.cell_world.specs.Texts.{Text};
 ghost use Rattle.cell_world.specs.Keys.{contains, overlaps};
 ghost use Rattle.cell_world.specs.Spelled.{IsCell, listed};
-ghost use Rattle.cell_world.specs.Stores.{Store, put, delete, changed, empty_store, cell_at, key_of, place_of, Stands, IsKeyed, IsStore};
+ghost use Rattle.cell_world.specs.Stores.{Store, put, delete, changed, empty_store, cell_at, own_key, piece_key, Stands, IsKeyed, IsStore};
 ghost use Rattle.cell_world.specs.Images.{Image, Global, Shard, global, with_store, empty_image, Trail, Happening, image_at, extended, end_of_trail};
 ghost use Rattle.cell_world.specs.Plain.{PlainState};
 ghost use Rattle.cell_world.specs.Meaning.{meaning, row_at, owner_of, next_operation, next_job};
@@ -47,7 +47,7 @@ pub fn overlap_at_points()
 /// A cell that was put stands, and under every other key stands what stood there.
 pub fn put_then_read()
     ensures there { (s : Store) (c : Cell) → Stands (put s c) c }
-    ensures others { (s : Store) (c : Cell) (k : CellKey) → k ≢ key_of c → cell_at (put s c) k ≡ cell_at s k }
+    ensures others { (s : Store) (c : Cell) (k : CellKey) → k ≢ own_key c → cell_at (put s c) k ≡ cell_at s k }
 {}
 
 /// Nothing stands under a key that was deleted, and under every other key stands what stood there.
@@ -63,7 +63,7 @@ pub fn cells_are_the_store()
 
 /// A cell stands under its own key, and every change keeps that.
 pub fn cells_keep_their_keys()
-    ensures own { (s : Store) → IsKeyed s → (k : CellKey) (c : Cell) → cell_at s k ≡ Some c → key_of c ≡ k }
+    ensures own { (s : Store) → IsKeyed s → (k : CellKey) (c : Cell) → cell_at s k ≡ Some c → own_key c ≡ k }
     ensures changes { (s : Store) → IsKeyed s → (edits : List Edit) → IsKeyed (changed s edits) }
 {}
 
@@ -111,7 +111,7 @@ pub fn meaning_of_a_log_row()
 /// The commit of a lawful operation that adds a mapping puts the mapping into the meaning, and nothing else changes there.
 pub fn meaning_of_an_add()
     ensures { (image : Image) → Sound image → (op : Op) (p : Piece) → Lawful image op → listed op.olds ≡ [] → listed op.news ≡ p ∷ [] →
-        meaning (with_store image Global (changed (global image) (Put (cell.Piece p) ∷ Delete (at.Log op.number) ∷ []))) ≡ record (meaning image) { mappings = map.insert (meaning image).mappings (place_of p) p } }
+        meaning (with_store image Global (changed (global image) (Put (cell.Piece p) ∷ Delete (at.Log op.number) ∷ []))) ≡ record (meaning image) { mappings = map.insert (meaning image).mappings (piece_key p) p } }
 {}
 
 // ---- sound images

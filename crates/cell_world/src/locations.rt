@@ -17,14 +17,14 @@ pub struct Location {
 
 impl Model for Location {
     ghost use Rattle.std.specs.Prelude.{ℕ, List, length, take, replicate, ◌++◌, ◌-◌, ◌≡◌};
-    ghost use Rattle.cell_world.specs.Fixed.{Holds, given_back};
+    ghost use Rattle.cell_world.specs.Fixed.{IsPadded, given_back};
     ghost use Rattle.cell_world.specs.Texts.{is_location};
 
     ghost Value = { List ℕ };
 
     ghost view = { λ t. take t.len t.bytes };
 
-    ghost invariant = { λ t. Holds 129 is_location t.len t.bytes };
+    ghost invariant = { λ t. IsPadded 129 is_location t.len t.bytes };
 
     ghost inverse = { λ xs. record { len = length xs; bytes = xs ++ replicate (129 - length xs) 0 } };
 

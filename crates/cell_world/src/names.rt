@@ -17,14 +17,14 @@ pub struct Name {
 
 impl Model for Name {
     ghost use Rattle.std.specs.Prelude.{ℕ, List, length, take, replicate, ◌++◌, ◌-◌, ◌≡◌};
-    ghost use Rattle.cell_world.specs.Fixed.{Holds, given_back};
+    ghost use Rattle.cell_world.specs.Fixed.{IsPadded, given_back};
     ghost use Rattle.cell_world.specs.Texts.{is_name};
 
     ghost Value = { List ℕ };
 
     ghost view = { λ t. take t.len t.bytes };
 
-    ghost invariant = { λ t. Holds 32 is_name t.len t.bytes };
+    ghost invariant = { λ t. IsPadded 32 is_name t.len t.bytes };
 
     ghost inverse = { λ xs. record { len = length xs; bytes = xs ++ replicate (32 - length xs) 0 } };
 

@@ -17,14 +17,14 @@ pub struct NormKey {
 
 impl Model for NormKey {
     ghost use Rattle.std.specs.Prelude.{ℕ, List, length, take, replicate, ◌++◌, ◌-◌, ◌≡◌};
-    ghost use Rattle.cell_world.specs.Fixed.{Holds, given_back};
+    ghost use Rattle.cell_world.specs.Fixed.{IsPadded, given_back};
     ghost use Rattle.cell_world.specs.Texts.{is_key_form};
 
     ghost Value = { List ℕ };
 
     ghost view = { λ t. take t.len t.bytes };
 
-    ghost invariant = { λ t. Holds 128 is_key_form t.len t.bytes };
+    ghost invariant = { λ t. IsPadded 128 is_key_form t.len t.bytes };
 
     ghost inverse = { λ xs. record { len = length xs; bytes = xs ++ replicate (128 - length xs) 0 } };
 

@@ -12,9 +12,12 @@ use crate::spans::{High, Span};
 #[derive(Clone, Copy, PartialEq, Eq)]
 pub struct Piece {
     pub map: Name,
+    /// The keys that it binds.
     pub span: Span,
+    /// Where they are.
     pub location: Location,
     pub status: Status,
+    /// Its lock, if it has one.
     pub token: Option<Token>,
 }
 
@@ -32,7 +35,7 @@ impl Piece {
     }
 }
 
-/// At most two mappings. Of two the lower is the first; there is a second one only beside a first.
+/// At most two mappings. In a cell there is a second one only beside a first; of two the lower is the first in a lawful operation.
 #[derive(Clone, Copy, PartialEq, Eq)]
 pub struct Pieces {
     pub one: Option<Piece>,
@@ -85,11 +88,14 @@ impl Phase {
 #[derive(Clone, Copy, PartialEq, Eq)]
 pub struct JobRow {
     pub number: u32,
+    /// A range map.
     pub map: Name,
-    /// The range to be moved.
+    /// The range to be moved, from `low` up to `high`.
     pub low: NormKey,
     pub high: High,
+    /// From here.
     pub source: Location,
+    /// To there.
     pub target: Location,
     /// The most rows of one batch, from 1 to 100,000.
     pub batch: u32,
@@ -145,8 +151,11 @@ pub struct Op {
     pub map: Name,
     /// The least span over the old and the new mappings.
     pub hull: Span,
+    /// The mappings that it replaces.
     pub olds: Pieces,
+    /// The mappings that stand afterwards in their place.
     pub news: Pieces,
+    /// The job that it goes on with, if it is a step of one.
     pub extra: Extra,
 }
 

@@ -3,7 +3,7 @@ ghost use Rattle.std.specs.Prelude.{◌≡◌, ◌≤◌, ◌<◌, ℕ, List, le
 ghost use Rattle.cell_world.specs.Counts.{Rose, last_count};
 ghost use Rattle.cell_world.specs.Finding.{IsFloor, IsScan, IsNextKey};
 ghost use Rattle.cell_world.specs.Images.{end_of_trail};
-ghost use Rattle.cell_world.specs.Outside.{Outside, IsWorld, IsSite, Same, OfStore, IfTrail, HasCause, Commits, Writes, Reopens, Takes, site_number, read_at};
+ghost use Rattle.cell_world.specs.Outside.{Outside, IsWorld, IsSite, Same, OfStore, IfTrail, FailsWithRise, Commits, Writes, Reopens, Takes, site_number, read_at};
 ghost use Rattle.cell_world.specs.Stores.{cell_at};
 
 use crate::cells::{Cell, CellKey, Site};
@@ -42,7 +42,7 @@ pub trait World {
         requires { IsSite (outside self.old) site }
         ensures found { IfOk result (λ found. OfStore (outside self.old) site (λ s. found ≡ cell_at s key.now)) }
         ensures same { Same (read_at (outside self.old) site) (outside self.new) }
-        ensures cause { HasCause result ((outside self.old).faults_at site.0) ((outside self.new).faults_at site.0) };
+        ensures cause { FailsWithRise result ((outside self.old).faults_at site.0) ((outside self.new).faults_at site.0) };
 
     /// The greatest cell of the same kind and map that is at or below the key.
     fn floor(
@@ -54,7 +54,7 @@ pub trait World {
         requires { IsSite (outside self.old) site }
         ensures found { IfOk result (λ found. OfStore (outside self.old) site (λ s. IsFloor s key.now found)) }
         ensures same { Same (read_at (outside self.old) site) (outside self.new) }
-        ensures cause { HasCause result ((outside self.old).faults_at site.0) ((outside self.new).faults_at site.0) };
+        ensures cause { FailsWithRise result ((outside self.old).faults_at site.0) ((outside self.new).faults_at site.0) };
 
     /// The first cells at or above the key of the same kind, of whatever map, in cell order: `limit` of them, or
     /// all where there are fewer.
@@ -68,7 +68,7 @@ pub trait World {
         requires { IsSite (outside self.old) site }
         ensures found { IfOk result (λ found. OfStore (outside self.old) site (λ s. IsScan s from.now limit found.items)) }
         ensures same { Same (read_at (outside self.old) site) (outside self.new) }
-        ensures cause { HasCause result ((outside self.old).faults_at site.0) ((outside self.new).faults_at site.0) };
+        ensures cause { FailsWithRise result ((outside self.old).faults_at site.0) ((outside self.new).faults_at site.0) };
 
     /// The least key with a row cell of the map that is at or above this one; with `past`, above it.
     fn next_key(
@@ -82,25 +82,25 @@ pub trait World {
         requires { IsSite (outside self.old) site }
         ensures found { IfOk result (λ found. OfStore (outside self.old) site (λ s. IsNextKey s.rows map.now from.now past found)) }
         ensures same { Same (read_at (outside self.old) site) (outside self.new) }
-        ensures cause { HasCause result ((outside self.old).faults_at site.0) ((outside self.new).faults_at site.0) };
+        ensures cause { FailsWithRise result ((outside self.old).faults_at site.0) ((outside self.new).faults_at site.0) };
 
     /// Makes a change in one transaction. `Failed`: it is made or not made, and the trail says which.
     /// `Memory`: it isn't made.
     fn commit(&mut self, alloc: Global, site: Site, change: &Change) -> Result<(), WorldError>
         requires { IsSite (outside self.old) site }
         ensures made { Commits (outside self.old) (outside self.new) site change.now result }
-        ensures cause { HasCause result ((outside self.old).faults_at site.0) ((outside self.new).faults_at site.0) };
+        ensures cause { FailsWithRise result ((outside self.old).faults_at site.0) ((outside self.new).faults_at site.0) };
 
     /// Writes bytes to the output. `Failed`: a front of them is written. `Memory`: none is.
     fn write(&mut self, alloc: Global, bytes: &[u8]) -> Result<(), WorldError>
         ensures written { Writes (outside self.old) (outside self.new) bytes.now result }
-        ensures cause { HasCause result (outside self.old).sink_faults (outside self.new).sink_faults };
+        ensures cause { FailsWithRise result (outside self.old).sink_faults (outside self.new).sink_faults };
 
     /// Opens a site anew: it holds what the outside gives now.
     fn reopen(&mut self, alloc: Global, site: Site) -> Result<(), WorldError>
         requires { IsSite (outside self.old) site }
         ensures reopened { Reopens (outside self.old) (outside self.new) site result }
-        ensures cause { HasCause result ((outside self.old).faults_at site.0) ((outside self.new).faults_at site.0) };
+        ensures cause { FailsWithRise result ((outside self.old).faults_at site.0) ((outside self.new).faults_at site.0) };
 
     /// The length of the trail, where it is told. Takes no memory.
     fn moment(&self) -> u64
@@ -134,6 +134,6 @@ pub trait Source {
         ensures fits { IfOk result (λ n. n ≤ length into.old) }
         ensures taken { IfOk result (λ n. Takes n (left self.old) (left self.new) into.new) }
         ensures same { OnErr result (left self.new ≡ left self.old) }
-        ensures falls { faults self.old ≤ faults self.new }
+        ensures never_falls { faults self.old ≤ faults self.new }
         ensures cause { IsErrOf result SourceError.Failed → Rose (faults self.old) (faults self.new) };
 }

@@ -13,7 +13,7 @@ use Rattle.plain_model.specs.declared.history.Entry.{Entry}
 use Rattle.plain_model.specs.Differing.{clean}
 use Rattle.plain_model.specs.Timelines.{Timeline, Happened, Entered, image_of, happened_of, history_of}
 use Rattle.plain_model.specs.OnTrail.{logs_put, was_reopened}
-use Rattle.plain_model.specs.Legal.{MayHappen, Unfolds, AllGoing, Legal, Counts, IsDetachedIn}
+use Rattle.plain_model.specs.Legal.{MayHappen, Unfolds, AllGoing, Legal, KeepsCounter, IsDetachedIn}
 use Rattle.plain_model.specs.Written.{last_moment, by_moment}
 use Rattle.plain_model.specs.ByMoments.{TrailByMoments, WasReopenedBy, from_moment, LegalByMoments}
 use Rattle.plain_model.proofs.Moments.{get_within, by_moment-later, image_more, Fits, fits_of, now_of, now_next, image_fits, last_le, all_by_now}
@@ -83,8 +83,8 @@ module _ (trail : Trail) (t0 : ℕ) where
   clauses : (history : List Entry) → ((t : ℕ) (h : Happening) → t0 ≤ t → slice_get trail.happened t ≡ Some h → PastAt trail t0 history t h) → TrailByMoments trail t0 history
   clauses history pasts = record {
     counter = λ t change lo at. let h : Happening = Committed Global change true in let p : PastAt trail t0 history t h = pasts t h lo at in
-        subst (λ (y : Image). Counts (next_operation (image_at trail t)) (next_operation y) (logs_put change)) (sym (image_more trail t h at))
-        (subst (λ (x : Image). Counts (next_operation x) (next_operation (after_one x h)) (logs_put change)) (image_then history t h p) p.happens);
+        subst (λ (y : Image). KeepsCounter (next_operation (image_at trail t)) (next_operation y) (logs_put change)) (sym (image_more trail t h at))
+        (subst (λ (x : Image). KeepsCounter (next_operation x) (next_operation (after_one x h)) (logs_put change)) (image_then history t h p) p.happens);
     no_reopening = λ t cells lo at. (pasts t (Reopened Global cells) lo at).happens;
     shard = λ t location change lo at. let h : Happening = Committed (Shard location) change true in let p : PastAt trail t0 history t h = pasts t h lo at in p.happens.0;
     detached = λ t location change took lo at gone. detached_at t location change took lo at gone (pasts t (Committed (Shard location) change took) lo at);

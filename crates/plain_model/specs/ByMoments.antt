@@ -20,7 +20,7 @@ use Rattle.plain_model.specs.Near.{Near}
 use Rattle.plain_model.specs.JobSteps.{asked_job}
 use Rattle.plain_model.specs.Follows.{Follows}
 use Rattle.plain_model.specs.OnTrail.{OnTrail, logs_put, logs}
-use Rattle.plain_model.specs.Legal.{IsPlanned, IsPlannedIn, MayHappen, IsDetachedIn, Counts, AllGoing, KeepsPromises}
+use Rattle.plain_model.specs.Legal.{IsPlanned, IsPlannedIn, MayHappen, IsDetachedIn, KeepsCounter, AllGoing, KeepsPromises}
 use Rattle.plain_model.specs.Written.{Mode, WrittenByMoments, last_moment, by_moment}
 
 -- ---- moments
@@ -91,7 +91,7 @@ pub record WasReopenedBy (trail : Trail) (a t : ℕ) (location : Text) : Type 0 
 pub record TrailByMoments (trail : Trail) (t0 : ℕ) (history : List Entry) : Type 0 where
   -- the operation number changes only in a commit that puts one log cell, which has the number that stood
   pub counter : (t : ℕ) (change : List Edit) → t0 ≤ t → slice_get trail.happened t ≡ Some (Committed Global change true)
-      → Counts (next_operation (image_at trail t)) (next_operation (image_at trail (t + 1))) (logs_put change)
+      → KeepsCounter (next_operation (image_at trail t)) (next_operation (image_at trail (t + 1))) (logs_put change)
   -- no log cell is put at a shard
   pub shard : (t : ℕ) (location : Text) (change : List Edit) → t0 ≤ t → slice_get trail.happened t ≡ Some (Committed (Shard location) change true) → logs_put change ≡ []
   -- no reopening concerns the global store

@@ -6,7 +6,7 @@ use Rattle.std.specs.FinSet as set
 use Rattle.cell_world.specs.Texts.{Text}
 use Rattle.cell_world.specs.Keys.{same, below, contains, overlaps, low_of}
 use Rattle.cell_world.specs.KeyForms.{is_span_of}
-use Rattle.cell_world.specs.Stores.{Store, Maps, Shards, Tables, Mappings, Locals, name_of}
+use Rattle.cell_world.specs.Stores.{Store, Maps, Shards, Tables, Mappings, Locals, local_key}
 use Rattle.cell_world.specs.Plain.{PlainState, Owner, owner}
 use Rattle.cell_world.specs.Meaning.{is_at}
 use Rattle.cell_world.specs.declared.operations.Piece.{Piece}
@@ -151,7 +151,7 @@ as_plain row = record row { number = 0; mark = mark.Plain }
 
 abbrev pub plain_rows : List LocalRow → Locals
 plain_rows [] = map.empty
-plain_rows (row ∷ rows) = map.insert (plain_rows rows) (name_of (as_plain row)) (as_plain row)
+plain_rows (row ∷ rows) = map.insert (plain_rows rows) (local_key (as_plain row)) (as_plain row)
 
 -- the local rows that are kept: in order of map, low key and number each that may stay and overlaps no earlier one
 abbrev pub clean_locals : Maps → Shards → Text → Locals → Locals

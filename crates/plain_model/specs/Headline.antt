@@ -27,14 +27,14 @@ pub record Asked : Type 0 where
   pub command : Command
 
 -- the session's commands in the script, in order
-abbrev pub commands_of : ℕ → List Asked → List Command
-commands_of session [] = []
-commands_of session (a ∷ script) = if a.session == session then a.command ∷ commands_of session script else commands_of session script
+abbrev pub script_of : ℕ → List Asked → List Command
+script_of session [] = []
+script_of session (a ∷ script) = if a.session == session then a.command ∷ script_of session script else script_of session script
 
 -- the commands of the session's entries with a reply
-abbrev pub answered : ℕ → List Entry → List Command
-answered session [] = []
-answered session (e ∷ es) = if (e.session == session) && is_some e.reply then e.command ∷ answered session es else answered session es
+abbrev pub answered_by : ℕ → List Entry → List Command
+answered_by session [] = []
+answered_by session (e ∷ es) = if (e.session == session) && is_some e.reply then e.command ∷ answered_by session es else answered_by session es
 
 -- the command of the session's first entry with a reply
 abbrev pub first_answered : ℕ → List Entry → Option Command
@@ -70,7 +70,7 @@ pub record SoundAtEachMoment (trail : Trail) (t0 : ℕ) : Type 0 where
 -- what a session has going at the end is its next command, and only where the run stopped
 pub record IsLeftGoing (script : List Asked) (history : List Entry) (ended : RunStatus) (session : ℕ) (going : Option Going) : Type 0 where
   pub none : has_stopped ended ≡ false → going ≡ None
-  pub next : IfSome going (λ g. (rest : List Command) × (answered session history ++ g.command ∷ rest ≡ commands_of session script))
+  pub next : IfSome going (λ g. (rest : List Command) × (answered_by session history ++ g.command ∷ rest ≡ script_of session script))
 
 pub record IsLegalHistory (trail : Trail) (t0 : ℕ) (script : List Asked) (history : List Entry) (ended : RunStatus) : Type 0 where
   pub going : AllGoing
@@ -89,15 +89,15 @@ pub record OnlyWhatHappened (mode : Mode) (trail : Trail) (t0 : ℕ) (history : 
 -- an entry without a reply has the command of that session's next entry with one, or of its next command where the run stopped
 abbrev pub HasItsCommand : List Asked → List Entry → RunStatus → Entry → List Entry → Option Command → Type 0
 HasItsCommand script history ended e later (Some command) = e.command ≡ command
-HasItsCommand script history ended e later None = (has_stopped ended ≡ true) × ((rest : List Command) × (answered e.session history ++ e.command ∷ rest ≡ commands_of e.session script))
+HasItsCommand script history ended e later None = (has_stopped ended ≡ true) × ((rest : List Command) × (answered_by e.session history ++ e.command ∷ rest ≡ script_of e.session script))
 
 pub record EachOnceInOrder (script : List Asked) (history : List Entry) (ended : RunStatus) : Type 0 where
   -- the commands of a session's entries with a reply are a front of its commands in the script
-  pub front : (session : ℕ) → (rest : List Command) × (answered session history ++ rest ≡ commands_of session script)
+  pub front : (session : ℕ) → (rest : List Command) × (answered_by session history ++ rest ≡ script_of session script)
   -- they are all of them where the status is 0 or 1
-  pub all : is_done ended ≡ true → (session : ℕ) → answered session history ≡ commands_of session script
+  pub all : is_done ended ≡ true → (session : ℕ) → answered_by session history ≡ script_of session script
   -- and where it is 5 and the history has a fault
-  pub all_after_fault : is_store_fault ended ≡ true → 0 < faults history → (session : ℕ) → answered session history ≡ commands_of session script
+  pub all_after_fault : is_store_fault ended ≡ true → 0 < faults history → (session : ℕ) → answered_by session history ≡ script_of session script
   pub silent : (i : ℕ) (e : Entry) → slice_get history i ≡ Some e → e.reply ≡ None
       → (later : List Entry) → take i history ++ e ∷ later ≡ history → HasItsCommand script history ended e later (first_answered e.session later)
 

@@ -3,7 +3,7 @@ use Rattle.std.specs.Prelude.{◌≡◌, ◌⊎◌, ℕ, ◌+◌, Bool, true, fa
 use Rattle.std.specs.FinMap as map
 use Rattle.cell_world.specs.Texts.{Text}
 use Rattle.cell_world.specs.Plain.{PlainState, owner}
-use Rattle.cell_world.specs.Jobs.{Step, Row, Fixed, UpTo, Replace, Finish, Stuck, job_row, IsBatchEnd, Gives, merge_due}
+use Rattle.cell_world.specs.Jobs.{Step, TableRow, Always, UpTo, Replace, Finish, Stuck, table_row, IsBatchEnd, Gives, merge_due}
 use Rattle.cell_world.specs.declared.operations.Piece.{Piece}
 use Rattle.cell_world.specs.declared.operations.JobRow.{JobRow}
 use Rattle.cell_world.specs.declared.operations.Extra.{Extra}
@@ -74,7 +74,7 @@ stepped s job Stuck = None
 -- B is A after the next row of the job's table; where the row depends on the batch end, with some end that a batch may have.
 pub record TakesJobStep (A B : PlainState) (job : JobRow) : Type 0 where
   pub step : Step
-  pub row : Gives (IsBatchEnd (owner A) job) (job_row (owner A) A.mappings job) step
+  pub row : Gives (IsBatchEnd (owner A) job) (table_row (owner A) A.mappings job) step
   pub after : stepped A job step ≡ Some B
 
 -- ---- which step it is
@@ -91,13 +91,13 @@ is_online_step s c = if_there (λ job. is_moved job.phase) (asked_job s c)
 abbrev pub is_merge_step : PlainState → Command → Bool
 is_merge_step s c = if_there (λ job. is_idle job.phase && is_some (merge_due s.mappings job)) (asked_job s c)
 
-abbrev pub is_finish : Row → Bool
-is_finish (Fixed Finish) = true
+abbrev pub is_finish : TableRow → Bool
+is_finish (Always Finish) = true
 is_finish row = false
 
 -- it is the finish: no merge is due, and the cursor is the end of the range
 abbrev pub is_finish_step : PlainState → Command → Bool
-is_finish_step s c = if_there (λ job. is_finish (job_row (owner s) s.mappings job)) (asked_job s c)
+is_finish_step s c = if_there (λ job. is_finish (table_row (owner s) s.mappings job)) (asked_job s c)
 
 -- how many of the session's entries since its previous one with a reply are onlines
 abbrev pub onlines_since : Past → ℕ → ℕ
@@ -115,4 +115,4 @@ JustBefore (m ∷ past) session number test = (m.entry.session ≡ session) × (
 -- The job's next step takes this mapping offline, which is its batch.
 pub record IsOfflineStep (A : PlainState) (job : JobRow) (p : Piece) : Type 0 where
   pub put : Extra
-  pub row : Gives (IsBatchEnd (owner A) job) (job_row (owner A) A.mappings job) (Replace (p ∷ []) (record p { status = Offline } ∷ []) put)
+  pub row : Gives (IsBatchEnd (owner A) job) (table_row (owner A) A.mappings job) (Replace (p ∷ []) (record p { status = Offline } ∷ []) put)

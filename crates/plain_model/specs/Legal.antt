@@ -31,10 +31,10 @@ abbrev pub IsAtRest : Image → Timeline → Type 0
 IsAtRest start past = Near (meaning (image_of start past)) (facts_of start past)
 
 -- The operation number of the counter changes only in a commit that puts one log cell: that has the number that stood, and the next stands afterwards.
-abbrev pub Counts : ℕ → ℕ → List Op → Type 0
-Counts old new [] = new ≡ old
-Counts old new (op ∷ []) = (op.number ≡ old) × (new ≡ old + 1)
-Counts old new ops = ⊥
+abbrev pub KeepsCounter : ℕ → ℕ → List Op → Type 0
+KeepsCounter old new [] = new ≡ old
+KeepsCounter old new (op ∷ []) = (op.number ≡ old) × (new ≡ old + 1)
+KeepsCounter old new ops = ⊥
 
 abbrev pub IsDetachedIn : Image → Text → Type 0
 IsDetachedIn image location = map.get (global image).away location ≡ Some away.Detached
@@ -46,7 +46,7 @@ pub record Mends (past : Timeline) (location : Text) (before after : Image) : Ty
 
 -- a commit that was made: at the global store it keeps to the counter; at a shard it puts no log cell
 abbrev pub MayCommit : Timeline → Place → List Edit → Image → Image → Type 0
-MayCommit past Global change before after = Counts (next_operation before) (next_operation after) (logs_put change)
+MayCommit past Global change before after = KeepsCounter (next_operation before) (next_operation after) (logs_put change)
 MayCommit past (Shard location) change before after = (logs_put change ≡ []) × (IsDetachedIn before location → Mends past location before after)
 
 abbrev pub MayHappen : Image → Timeline → Happening → Type 0

@@ -4,7 +4,7 @@ use Rattle.std.specs.FinMap as map
 use Rattle.std.specs.FinSet as set
 use Rattle.cell_world.specs.Texts.{Text}
 use Rattle.cell_world.specs.Keys.{same, below, contains, low_of, end_of, end_below}
-use Rattle.cell_world.specs.Stores.{Mappings, Jobs, Locals, Rows, name_of, exchanged}
+use Rattle.cell_world.specs.Stores.{Mappings, Jobs, Locals, Rows, local_key, exchanged}
 use Rattle.cell_world.specs.Jobs.{part_of}
 use Rattle.cell_world.specs.Meaning.{is_at}
 use Rattle.cell_world.specs.Plain.{PlainState, Connection, Connections, Held, holds_nothing, owner, with_connections}
@@ -186,12 +186,12 @@ local_rows_with name status (span ∷ spans) = record { map = name; span = span;
 
 abbrev pub with_locals : Locals → List LocalRow → Locals
 with_locals locals [] = locals
-with_locals locals (row ∷ rows) = with_locals (map.insert locals (name_of row) row) rows
+with_locals locals (row ∷ rows) = with_locals (map.insert locals (local_key row) row) rows
 
 -- the local row, if any, is cut round a part
 abbrev pub cut_local : Locals → Span → Option LocalRow → Locals
 cut_local locals part None = locals
-cut_local locals part (Some row) = with_locals (map.remove locals (name_of row)) (local_rows_with row.map row.status (rest_of row.span part))
+cut_local locals part (Some row) = with_locals (map.remove locals (local_key row)) (local_rows_with row.map row.status (rest_of row.span part))
 
 -- a local row over the part with this status, or none
 abbrev pub local_part : Text → Span → Option Status → List LocalRow

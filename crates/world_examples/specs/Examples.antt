@@ -4,8 +4,8 @@ use Rattle.std.specs.FinMap.{from_sorted}
 use Rattle.std.specs.FinSet.{from_list}
 use Rattle.cell_world.specs.Texts.{Text}
 use Rattle.cell_world.specs.Plain.{Owner, owner_in}
-use Rattle.cell_world.specs.Jobs.{Row, job_row, batch_end}
-use Rattle.cell_world.specs.Stores.{Maps, Shards, Tables, Mappings, Log, Jobs, AwaySites, Locals, Rows, place_of, name_of}
+use Rattle.cell_world.specs.Jobs.{TableRow, table_row, batch_end}
+use Rattle.cell_world.specs.Stores.{Maps, Shards, Tables, Mappings, Log, Jobs, AwaySites, Locals, Rows, piece_key, local_key}
 use Rattle.cell_world.specs.declared.spans.High.{High}
 use Rattle.cell_world.specs.declared.spans.High.TheVariants.{At, Max}
 use Rattle.cell_world.specs.declared.spans.Span.{Span}
@@ -128,7 +128,7 @@ abbrev pub tables_of : List (Text × Text) → Tables
 tables_of tables = from_list tables
 
 abbrev pub keyed_pieces : List Piece → List ((Text × Text) × Piece)
-keyed_pieces pieces = map (λ p. (place_of p, p)) pieces
+keyed_pieces pieces = map (λ p. (piece_key p, p)) pieces
 
 abbrev pub mappings_of : List Piece → Mappings
 mappings_of pieces = from_sorted (keyed_pieces pieces)
@@ -143,7 +143,7 @@ abbrev pub away_of : List (Text × Away) → AwaySites
 away_of entries = from_sorted entries
 
 abbrev pub locals_of : List LocalRow → Locals
-locals_of rows = from_sorted (map (λ row. (name_of row, row)) rows)
+locals_of rows = from_sorted (map (λ row. (local_key row, row)) rows)
 
 abbrev pub rows_of : List (RowName × Text) → Rows
 rows_of entries = from_sorted entries
@@ -177,5 +177,5 @@ abbrev pub rows_under_keys : List ℕ → Rows
 rows_under_keys keys = rows_of (numbered_rows 1 keys)
 
 -- the row of the job's table where these mappings of `m` stand
-abbrev pub row_with : List Piece → JobRow → Row
-row_with pieces job = job_row (owner_with pieces) (mappings_of pieces) job
+abbrev pub row_with : List Piece → JobRow → TableRow
+row_with pieces job = table_row (owner_with pieces) (mappings_of pieces) job

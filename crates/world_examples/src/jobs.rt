@@ -1,6 +1,6 @@
 //! Examples of the table of a job, and of where its batches end.
 ghost use Rattle.std.specs.Prelude.{◌≡◌, [], ◌∷◌};
-ghost use Rattle.cell_world.specs.Jobs.{Fixed, Replace, Finish, Stuck, with_end, next_above, end_of_batch, keys_between, batch_end};
+ghost use Rattle.cell_world.specs.Jobs.{Always, Replace, Finish, Stuck, with_end, next_above, end_of_batch, keys_between, batch_end};
 ghost use Rattle.cell_world.specs.declared.cells.Status.TheVariants.{Online, Offline};
 ghost use Rattle.cell_world.specs.declared.operations.Phase.TheVariants.{Idle, Copying, Moved};
 ghost use Rattle.cell_world.specs.declared.operations.Extra.TheVariants.{None, JobPut};
@@ -53,24 +53,24 @@ pub fn batch_ends_of_a_job()
 /// The rows of the table while no batch is under way: job 1 moves [0, 10) from `s/a` to `s/b`.
 pub fn steps_without_a_batch()
     ensures merge { row_with (job_piece 0 3 site_b Online ∷ job_piece 3 5 site_b Online ∷ job_piece 5 10 site_a Online ∷ []) (job_at 5 Idle)
-        ≡ Fixed (Replace (job_piece 0 3 site_b Online ∷ job_piece 3 5 site_b Online ∷ []) (job_piece 0 5 site_b Online ∷ []) None) }
+        ≡ Always (Replace (job_piece 0 3 site_b Online ∷ job_piece 3 5 site_b Online ∷ []) (job_piece 0 5 site_b Online ∷ []) None) }
     ensures last_merge { row_with (job_piece 0 5 site_b Online ∷ job_piece 5 10 site_b Online ∷ []) (job_at 10 Idle)
-        ≡ Fixed (Replace (job_piece 0 5 site_b Online ∷ job_piece 5 10 site_b Online ∷ []) (job_piece 0 10 site_b Online ∷ []) None) }
-    ensures finish { row_with (job_piece 0 10 site_b Online ∷ []) (job_at 10 Idle) ≡ Fixed Finish }
+        ≡ Always (Replace (job_piece 0 5 site_b Online ∷ job_piece 5 10 site_b Online ∷ []) (job_piece 0 10 site_b Online ∷ []) None) }
+    ensures finish { row_with (job_piece 0 10 site_b Online ∷ []) (job_at 10 Idle) ≡ Always Finish }
     ensures split_at_cursor { row_with (job_piece 0 10 site_a Online ∷ []) (job_from 2)
-        ≡ Fixed (Replace (job_piece 0 10 site_a Online ∷ []) (job_piece 0 2 site_a Online ∷ job_piece 2 10 site_a Online ∷ []) None) }
+        ≡ Always (Replace (job_piece 0 10 site_a Online ∷ []) (job_piece 0 2 site_a Online ∷ job_piece 2 10 site_a Online ∷ []) None) }
     ensures split_at_end { with_end (row_with (job_piece 0 10 site_a Online ∷ []) (job_at 0 Idle)) (At (int_key 3))
         ≡ Replace (job_piece 0 10 site_a Online ∷ []) (job_piece 0 3 site_a Online ∷ job_piece 3 10 site_a Online ∷ []) None }
     ensures offline { with_end (row_with (job_piece 0 3 site_a Online ∷ job_piece 3 10 site_a Online ∷ []) (job_at 0 Idle)) (At (int_key 3))
         ≡ Replace (job_piece 0 3 site_a Online ∷ []) (job_piece 0 3 site_a Offline ∷ []) (JobPut (job_at 0 (Copying (At (int_key 3))))) }
-    ensures nobody { row_with [] (job_at 0 Idle) ≡ Fixed Stuck }
+    ensures nobody { row_with [] (job_at 0 Idle) ≡ Always Stuck }
 {}
 
 /// The rows of the table while a batch, [0, 3), is under way.
 pub fn steps_of_a_batch()
     ensures move_there { row_with (job_piece 0 3 site_a Offline ∷ job_piece 3 10 site_a Online ∷ []) (job_at 0 (Copying (At (int_key 3))))
-        ≡ Fixed (Replace (job_piece 0 3 site_a Offline ∷ []) (job_piece 0 3 site_b Offline ∷ []) (JobPut (job_at 0 (Moved (At (int_key 3)))))) }
+        ≡ Always (Replace (job_piece 0 3 site_a Offline ∷ []) (job_piece 0 3 site_b Offline ∷ []) (JobPut (job_at 0 (Moved (At (int_key 3)))))) }
     ensures online { row_with (job_piece 0 3 site_b Offline ∷ job_piece 3 10 site_a Online ∷ []) (job_at 0 (Moved (At (int_key 3))))
-        ≡ Fixed (Replace (job_piece 0 3 site_b Offline ∷ []) (job_piece 0 3 site_b Online ∷ []) (JobPut (job_at 3 Idle))) }
-    ensures nobody { row_with [] (job_at 0 (Copying (At (int_key 3)))) ≡ Fixed Stuck }
+        ≡ Always (Replace (job_piece 0 3 site_b Offline ∷ []) (job_piece 0 3 site_b Online ∷ []) (JobPut (job_at 3 Idle))) }
+    ensures nobody { row_with [] (job_at 0 (Copying (At (int_key 3)))) ≡ Always Stuck }
 {}
