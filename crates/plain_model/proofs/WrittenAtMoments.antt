@@ -11,7 +11,7 @@ use Rattle.plain_model.specs.declared.history.Entry.{Entry}
 use Rattle.plain_model.specs.Timelines.{Timeline, Happened, Entered, happened_of, history_of, written_of}
 use Rattle.plain_model.specs.Lines.{lines, entry_text}
 use Rattle.plain_model.specs.Legal.{Unfolds}
-use Rattle.plain_model.specs.Written.{Mode, EachReply, Summary, summary, all_lines, IsPrefixOf, by_moment, some_answered, without_last, LinesAt, SummaryAt, WrittenAt, WrittenByMoments, AllWritten, surely_written, LinesSoFar, WrittenSoFar, WasWritten}
+use Rattle.plain_model.specs.Written.{Mode, EachReply, Summary, summary, all_lines, IsPrefixOf, last_moment, by_moment, some_answered, without_last, LinesAt, SummaryAt, WrittenAt, WrittenByMoments, AllWritten, surely_written, LinesSoFar, WrittenSoFar, WasWritten}
 use Rattle.plain_model.specs.Running.{bytes_of}
 use Rattle.plain_model.proofs.Moments.{by_moment-later, last_moment_push, Fits, fits_of, now_of, now_next, last_le, stretch_next, stretch_none, all_by_now}
 
@@ -134,13 +134,21 @@ module _ (trail : Trail) (t0 : ℕ) where
 
   -- ---- the summary
 
+  -- at the moment of the last entry nothing was written
+  quiet_last : (past : Timeline) (cs : Connections) → Unfolds t0 (image_at trail t0) past cs → WasWritten Summary past → now_of t0 past ≤ last_moment t0 (history_of past) → written_of past ≡ []
+  quiet_last [] cs u w le = refl
+  quiet_last (Happened h ∷ past) cs u w le = absurd (omega (arith, le, last_le trail t0 past cs u.0, now_next t0 past h))
+  quiet_last (Entered e ∷ past) cs u w le = w.1
+
   -- now
-  summary_now : (past : Timeline) (cs : Connections) → Unfolds t0 (image_at trail t0) past cs → Fits trail t0 past → IsPrefixOf (written_of past) (summary (history_of past)) → (t : ℕ) → t ≡ now_of t0 past
+  summary_now : (past : Timeline) (cs : Connections) → Unfolds t0 (image_at trail t0) past cs → Fits trail t0 past → WasWritten Summary past → IsPrefixOf (written_of past) (summary (history_of past)) → (t : ℕ) → t ≡ now_of t0 past
       → SummaryAt t0 (history_of past) t (bytes_between trail t0 t)
-  summary_now past cs u fits w t at = record {
-    quiet = λ early. absurd (omega (arith, early, at, last_le trail t0 past cs u));
-    front = λ late. subst (λ (bs : Text). IsPrefixOf bs (summary (history_of past))) (sym (ap (bytes_between trail t0) at ∙ bytes_now trail t0 past fits)) w;
-  }
+  summary_now past cs u fits before w t at =
+      let bytes : bytes_between trail t0 t ≡ written_of past = ap (bytes_between trail t0) at ∙ bytes_now trail t0 past fits in
+      record {
+        quiet = λ early. bytes ∙ quiet_last past cs u before (omega (arith, early, at));
+        front = λ late. subst (λ (bs : Text). IsPrefixOf bs (summary (history_of past))) (sym bytes) w;
+      }
 
   -- nothing was written before an entry
   summary_earlier : (past : Timeline) (e : Entry) → Fits trail t0 past → written_of past ≡ [] → (t : ℕ) → t0 ≤ t → t < e.moment → e.moment ≡ now_of t0 past → SummaryAt t0 (history_of past ++ e ∷ []) t (bytes_between trail t0 t)
@@ -151,9 +159,9 @@ module _ (trail : Trail) (t0 : ℕ) where
 
   -- ---- in both modes
 
-  written_now : (mode : Mode) (past : Timeline) (cs : Connections) → Unfolds t0 (image_at trail t0) past cs → Fits trail t0 past → WrittenSoFar mode past → (t : ℕ) → t ≡ now_of t0 past → WrittenAt mode trail t0 (history_of past) t
-  written_now (EachReply tagged) past cs u fits w t at = lines_now tagged past fits w t at (all_by_now trail t0 past cs u t (omega (arith, at)))
-  written_now Summary past cs u fits w t at = summary_now past cs u fits w t at
+  written_now : (mode : Mode) (past : Timeline) (cs : Connections) → Unfolds t0 (image_at trail t0) past cs → Fits trail t0 past → WasWritten mode past → WrittenSoFar mode past → (t : ℕ) → t ≡ now_of t0 past → WrittenAt mode trail t0 (history_of past) t
+  written_now (EachReply tagged) past cs u fits before w t at = lines_now tagged past fits w t at (all_by_now trail t0 past cs u t (omega (arith, at)))
+  written_now Summary past cs u fits before w t at = summary_now past cs u fits before w t at
 
   written_before : (mode : Mode) (past : Timeline) (cs : Connections) → Unfolds t0 (image_at trail t0) past cs → Fits trail t0 past → WasWritten mode past → (t : ℕ) → t0 ≤ t → t < now_of t0 past → WrittenAt mode trail t0 (history_of past) t
   written_before mode [] cs u fits w t lo hi = absurd (omega (arith, lo, hi))
@@ -161,7 +169,7 @@ module _ (trail : Trail) (t0 : ℕ) where
   written_before Summary (Entered e ∷ past) cs u fits w t lo hi = summary_earlier past e fits w.1 t lo (omega (arith, hi, u.2.moment)) u.2.moment
   written_before mode (Happened h ∷ past) cs u fits w t lo hi = ⊎_elim
       (λ small. written_before mode past cs u.0 fits.0 w.0 t lo small)
-      (λ big. written_now mode past cs u.0 fits.0 w.1 t (omega (arith, big, hi, now_next t0 past h)))
+      (λ big. written_now mode past cs u.0 fits.0 w.0 w.1 t (omega (arith, big, hi, now_next t0 past h)))
       (cases_lt t (now_of t0 past))
 
 -- What is written in a timeline from t0 on is written so at each moment.
@@ -172,7 +180,7 @@ written_by_moments mode trail t0 past cs le u happened before now t lo hi =
     let end : now_of t0 past ≡ end_of_trail trail = omega (arith, le, ap length happened, length-drop t0 trail.happened) in
     ⊎_elim
     (λ small. written_before trail t0 mode past cs u fits before t lo small)
-    (λ big. written_now trail t0 mode past cs u fits now t (omega (arith, big, hi, end)))
+    (λ big. written_now trail t0 mode past cs u fits before now t (omega (arith, big, hi, end)))
     (cases_lt t (now_of t0 past))
 
 -- What is written now is all that is written at the end.

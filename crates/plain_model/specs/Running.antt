@@ -1,5 +1,5 @@
 -- The run so far, as one record: what holds between two events.
-use Rattle.std.specs.Prelude.{◌≡◌, ℕ, List, [], ◌∷◌, ◌++◌}
+use Rattle.std.specs.Prelude.{◌≡◌, ℕ, [], ◌∷◌, ◌++◌}
 use Rattle.cell_world.specs.Texts.{Text}
 use Rattle.cell_world.specs.Images.{Image, Happening, Wrote, Committed, Reopened}
 use Rattle.cell_world.specs.Plain.{Connections}

@@ -1,7 +1,7 @@
 -- How much of a history's lines is written.
-use Rattle.std.specs.Prelude.{◌≡◌, ℕ, ◌+◌, ◌<◌, ◌≤◌, Bool, true, false, ◌||◌, List, [], ◌∷◌, ◌++◌, length, take, filter, nat_le, if◌then◌else◌, is_some}
+use Rattle.std.specs.Prelude.{◌≡◌, ℕ, ◌≤◌, Bool, false, ◌||◌, List, [], ◌∷◌, ◌++◌, length, filter, nat_le, if◌then◌else◌, is_some}
 use Rattle.cell_world.specs.Texts.{Text}
-use Rattle.cell_world.specs.Images.{Trail, end_of_trail, bytes_between, Happening}
+use Rattle.cell_world.specs.Images.{Trail, end_of_trail, bytes_between}
 use Rattle.plain_model.specs.declared.history.Entry.{Entry}
 use Rattle.plain_model.specs.Lines.{lines}
 use Rattle.plain_model.specs.Summary.{summary_lines}
@@ -58,8 +58,8 @@ pub record LinesAt (tagged : Bool) (history : List Entry) (t : ℕ) (bytes : Tex
   pub least : length (lines tagged (without_last (by_moment t history))) ≤ length bytes
 
 pub record SummaryAt (t0 : ℕ) (history : List Entry) (t : ℕ) (bytes : Text) : Type 0 where
-  -- nothing is written until the last entry
-  pub quiet : t < last_moment t0 history → bytes ≡ []
+  -- nothing is written until the last entry is made
+  pub quiet : t ≤ last_moment t0 history → bytes ≡ []
   -- and then a front of the four summary lines
   pub front : last_moment t0 history ≤ t → IsPrefixOf bytes (summary history)
 

@@ -1,5 +1,5 @@
 //! Laws of a run: how the run so far goes on, and what follows from it at each moment. Each is the contract of a function that does nothing.
-ghost use Rattle.std.specs.Prelude.{◌≡◌, ◌≤◌, ◌++◌, ◌∷◌, [], ℕ, Bool, List, Some, None, drop, take, slice_get};
+ghost use Rattle.std.specs.Prelude.{◌≡◌, ◌↔◌, ◌≤◌, ◌++◌, ◌∷◌, [], ℕ, Bool, List, Some, None, drop, take, slice_get};
 ghost use Rattle.cell_world.specs.Texts.{Text};
 ghost use Rattle.cell_world.specs.Images.{Image, Trail, Happening, Wrote, after_one, image_at, end_of_trail, extended};
 ghost use Rattle.cell_world.specs.Plain.{Connections, nobody};
@@ -12,7 +12,7 @@ ghost use Rattle.plain_model.specs.Timelines.{Timeline, Happened, Entered, image
 ghost use Rattle.plain_model.specs.OnTrail.{reach_of_command};
 ghost use Rattle.plain_model.specs.Legal.{Going, AllGoing, Promises, KeepsPromises, Legal, MayHappen, MayEnter};
 ghost use Rattle.plain_model.specs.GoingOn.{GoesOn, TakesUp, NamesOperations};
-ghost use Rattle.plain_model.specs.Written.{Mode, EachReply, Summary, summary, all_lines, IsPrefixOf, WrittenSoFar, AllWritten, last_moment};
+ghost use Rattle.plain_model.specs.Written.{Mode, EachReply, Summary, summary, all_lines, IsPrefixOf, WrittenSoFar, WasWritten, WrittenByMoments, AllWritten, last_moment};
 ghost use Rattle.plain_model.specs.ByMoments.{LegalByMoments, TrailByMoments, IsLeastInWayAt, RunsByMoments, from_moment, timeline_at, standing};
 ghost use Rattle.plain_model.specs.Running.{Running, Owing, bytes_of, text_of};
 
@@ -85,6 +85,18 @@ pub fn moments_tell_the_order()
         legal.timeline ≡ timeline_at trail t0 history (end_of_trail trail) }
     ensures grows { (trail : Trail) (t0 : ℕ) (past : Timeline) (h : Happening) → t0 ≤ end_of_trail trail → happened_of past ≡ drop t0 trail.happened →
         happened_of (Happened h ∷ past) ≡ drop t0 (extended trail h).happened }
+{}
+
+/// So it is with what is written.
+pub fn moments_tell_what_is_written()
+    ensures before { (mode : Mode) (trail : Trail) (t0 : ℕ) (going : AllGoing) (history : List Entry) → t0 ≤ end_of_trail trail → (legal : Legal t0 (from_moment trail t0) going history) →
+        WrittenByMoments mode trail t0 history → WasWritten mode legal.timeline }
+    ensures now { (mode : Mode) (trail : Trail) (t0 : ℕ) (going : AllGoing) (history : List Entry) → t0 ≤ end_of_trail trail → (legal : Legal t0 (from_moment trail t0) going history) →
+        WrittenByMoments mode trail t0 history → WrittenSoFar mode legal.timeline }
+    ensures at_moments { (mode : Mode) (trail : Trail) (t0 : ℕ) (going : AllGoing) (history : List Entry) → t0 ≤ end_of_trail trail → (legal : Legal t0 (from_moment trail t0) going history) →
+        WasWritten mode legal.timeline → WrittenSoFar mode legal.timeline → WrittenByMoments mode trail t0 history }
+    ensures all { (mode : Mode) (trail : Trail) (t0 : ℕ) (going : AllGoing) (history : List Entry) → t0 ≤ end_of_trail trail → (legal : Legal t0 (from_moment trail t0) going history) →
+        AllWritten mode trail t0 history ↔ (written_of legal.timeline ≡ all_lines mode history) }
 {}
 
 /// What a legal history says of its trail alone.
