@@ -4,26 +4,18 @@ use Rattle.std.proofs.lemmas.List.{append-nil, append_assoc}
 use Rattle.std.proofs.lemmas.Grind.{flat_map-append}
 use Rattle.cell_world.specs.Texts.{Text}
 use Rattle.cell_world.specs.Images.{Image, Happening, Wrote, after_one}
-use Rattle.cell_world.specs.Plain.{PlainState, Connections, nobody}
+use Rattle.cell_world.specs.Plain.{Connections, nobody}
 use Rattle.cell_world.specs.Meaning.{meaning}
 use Rattle.cell_world.specs.Sound.{Sound}
 use Rattle.plain_model.specs.declared.replies.Reply.{Reply}
 use Rattle.plain_model.specs.declared.history.Entry.{Entry}
 use Rattle.plain_model.specs.Lines.{lines, entry_text}
 use Rattle.plain_model.specs.Timelines.{Timeline, Happened, Entered, image_of, facts_of, history_of, written_of}
-use Rattle.plain_model.specs.Near.{Near}
-use Rattle.plain_model.specs.Legal.{MayHappen, MayEnter}
+use Rattle.plain_model.specs.Legal.{IsAtRest, MayHappen, MayEnter}
 use Rattle.plain_model.specs.Written.{Mode, EachReply, Summary, summary, IsPrefixOf, IsQuietAt, surely_written, WrittenSoFar}
-use Rattle.plain_model.specs.Running.{AllSound, Running, bytes_of, text_of, Owes, Owing}
+use Rattle.plain_model.specs.Running.{AllSound, Running, bytes_of, text_of, Owes, Owing, Recovering}
+use Rattle.plain_model.proofs.NearLaws.{near_of}
 use Rattle.plain_model.proofs.WrittenAtMoments.{written_of_next, lines_none}
-
--- ---- near
-
-pub near_itself : (a : PlainState) → Near a a
-near_itself a = record { same = refl; here = λ location stays. refl; rows = λ location suspect. refl; status = λ location name key suspect. refl }
-
-pub near_of : (a b : PlainState) → a ≡ b → Near a b
-near_of a b e = subst (λ x. Near a x) e (near_itself a)
 
 -- ---- what is still to be written
 
@@ -144,29 +136,70 @@ module _ (since : ℕ) (start : Image) (mode : Mode) where
     written = written;
   }
 
-  -- an entry alone
-  enters_alone : (past : Timeline) (before after : Connections) (e : Entry) → Running since start mode past before
-      → MayEnter since start past e before after → IsQuietAt mode past → WrittenSoFar mode (Entered e ∷ past) → Running since start mode (Entered e ∷ past) after
-  enters_alone past before after e run enters quiet written = record {
+  -- what stands exactly stands up to near
+  pub recovers : (past : Timeline) (connections : Connections) (rest : Text) → Owing since start mode past connections rest → Recovering since start mode past connections rest
+  recovers past connections rest owing = record {
+    unfolds = owing.run.unfolds;
+    rests = near_of (meaning (image_of start past)) (facts_of start past) owing.run.exact;
+    sound = owing.run.sound;
+    was_written = owing.run.was_written;
+    written = owing.run.written;
+    owes = owing.owes;
+  }
+
+  -- an entry alone: the stores stand exactly for the new state at once
+  enters_alone : (past : Timeline) (before after : Connections) (rest : Text) (e : Entry) → Recovering since start mode past before rest
+      → MayEnter since start past e before after → WrittenSoFar mode (Entered e ∷ past) → Running since start mode (Entered e ∷ past) after
+  enters_alone past before after rest e run enters written = record {
     unfolds = (before, run.unfolds, enters);
     exact = refl;
     sound = run.sound;
-    was_written = (run.was_written, quiet);
+    was_written = (run.was_written, quiet_at mode past rest run.owes);
     written = written;
   }
 
-  -- what happened last and its entry: the stores stand exactly for the new state at once
-  enters_with : (past : Timeline) (before after : Connections) (h : Happening) (e : Entry) → Running since start mode past before → MayHappen start past h → Sound (after_one (image_of start past) h)
-      → MayEnter since start (Happened h ∷ past) e before after → IsQuietAt mode (Happened h ∷ past) → WrittenSoFar mode (Entered e ∷ Happened h ∷ past) → Running since start mode (Entered e ∷ Happened h ∷ past) after
-  enters_with past before after h e run happens sound enters quiet written = record {
-    unfolds = (before, (run.unfolds, near_of (meaning (image_of start past)) (facts_of start past) run.exact, happens), enters);
+  -- and so what happened last with its entry
+  enters_with : (past : Timeline) (before after : Connections) (rest : Text) (h : Happening) (e : Entry) → Recovering since start mode past before rest → bytes_of h ≡ [] → MayHappen start past h
+      → Sound (after_one (image_of start past) h) → MayEnter since start (Happened h ∷ past) e before after → WrittenSoFar mode (Entered e ∷ Happened h ∷ past) → Running since start mode (Entered e ∷ Happened h ∷ past) after
+  enters_with past before after rest h e run quiet happens sound enters written = record {
+    unfolds = (before, (run.unfolds, run.rests, happens), enters);
     exact = refl;
     sound = (sound, run.sound);
-    was_written = ((run.was_written, run.written), quiet);
+    was_written = ((run.was_written, run.written), quiet_at mode (Happened h ∷ past) rest (owes-quiet mode past h rest quiet run.owes));
     written = written;
   }
 
-  -- ---- runs that still have something to write
+  -- ---- up to near
+
+  -- something happened that writes nothing and leaves what the stores stand for, up to near
+  pub recovering-happened : (past : Timeline) (connections : Connections) (rest : Text) (h : Happening) → Recovering since start mode past connections rest
+      → bytes_of h ≡ [] → MayHappen start past h → Sound (after_one (image_of start past) h) → IsAtRest start (Happened h ∷ past) → Recovering since start mode (Happened h ∷ past) connections rest
+  recovering-happened past connections rest h run quiet happens sound near = record {
+    unfolds = (run.unfolds, run.rests, happens);
+    rests = near;
+    sound = (sound, run.sound);
+    was_written = (run.was_written, run.written);
+    written = written-quiet mode past h quiet run.written;
+    owes = owes-quiet mode past h rest quiet run.owes;
+  }
+
+  -- an entry with a reply
+  pub recovering-entered : (past : Timeline) (before after : Connections) (e : Entry) (reply : Reply) → Recovering since start mode past before []
+      → e.reply ≡ Some reply → MayEnter since start past e before after → Owing since start mode (Entered e ∷ past) after (text_of mode e)
+  recovering-entered past before after e reply run is enters = record {
+    run = enters_alone past before after [] e run enters (written-entry mode past e reply is run.owes);
+    owes = owes-entry mode past e run.owes;
+  }
+
+  -- what happened last, and the entry with a reply that it stands for
+  pub recovering-committed : (past : Timeline) (before after : Connections) (h : Happening) (e : Entry) (reply : Reply) → Recovering since start mode past before []
+      → bytes_of h ≡ [] → e.reply ≡ Some reply → MayHappen start past h → Sound (after_one (image_of start past) h) → MayEnter since start (Happened h ∷ past) e before after
+      → Owing since start mode (Entered e ∷ Happened h ∷ past) after (text_of mode e)
+  recovering-committed past before after h e reply run quiet is happens sound enters =
+      let owes : Owes mode (Happened h ∷ past) [] = owes-quiet mode past h [] quiet run.owes in
+      record { run = enters_with past before after [] h e run quiet happens sound enters (written-entry mode (Happened h ∷ past) e reply is owes); owes = owes-entry mode (Happened h ∷ past) e owes }
+
+  -- ---- exactly
 
   -- something happened that writes nothing and leaves what the stores stand for
   pub owing-happened : (past : Timeline) (connections : Connections) (rest : Text) (h : Happening) → Owing since start mode past connections rest
@@ -180,16 +213,13 @@ module _ (since : ℕ) (start : Image) (mode : Mode) where
   -- an entry with a reply
   pub owing-entered : (past : Timeline) (before after : Connections) (e : Entry) (reply : Reply) → Owing since start mode past before []
       → e.reply ≡ Some reply → MayEnter since start past e before after → Owing since start mode (Entered e ∷ past) after (text_of mode e)
-  owing-entered past before after e reply owing is enters = record {
-    run = enters_alone past before after e owing.run enters (quiet_at mode past [] owing.owes) (written-entry mode past e reply is owing.owes);
-    owes = owes-entry mode past e owing.owes;
-  }
+  owing-entered past before after e reply owing is enters = recovering-entered past before after e reply (recovers past before [] owing) is enters
 
   -- an entry without a reply
   pub owing-silent : (past : Timeline) (before after : Connections) (rest : Text) (e : Entry) → Owing since start mode past before rest
       → e.reply ≡ None → MayEnter since start past e before after → Owing since start mode (Entered e ∷ past) after rest
   owing-silent past before after rest e owing is enters = record {
-    run = enters_alone past before after e owing.run enters (quiet_at mode past rest owing.owes) (written-silent mode past e rest is owing.owes owing.run.written);
+    run = enters_alone past before after rest e (recovers past before rest owing) enters (written-silent mode past e rest is owing.owes owing.run.written);
     owes = owes-silent mode past e rest is owing.owes;
   }
 
@@ -197,12 +227,7 @@ module _ (since : ℕ) (start : Image) (mode : Mode) where
   pub owing-committed : (past : Timeline) (before after : Connections) (h : Happening) (e : Entry) (reply : Reply) → Owing since start mode past before []
       → bytes_of h ≡ [] → e.reply ≡ Some reply → MayHappen start past h → Sound (after_one (image_of start past) h) → MayEnter since start (Happened h ∷ past) e before after
       → Owing since start mode (Entered e ∷ Happened h ∷ past) after (text_of mode e)
-  owing-committed past before after h e reply owing quiet is happens sound enters =
-      let owes : Owes mode (Happened h ∷ past) [] = owes-quiet mode past h [] quiet owing.owes in
-      record {
-        run = enters_with past before after h e owing.run happens sound enters (quiet_at mode (Happened h ∷ past) [] owes) (written-entry mode (Happened h ∷ past) e reply is owes);
-        owes = owes-entry mode (Happened h ∷ past) e owes;
-      }
+  owing-committed past before after h e reply owing quiet is happens sound enters = recovering-committed past before after h e reply (recovers past before [] owing) quiet is happens sound enters
 
   -- a step of a job, and its entry
   pub owing-stepped : (past : Timeline) (before after : Connections) (rest : Text) (h : Happening) (e : Entry) → Owing since start mode past before rest
@@ -211,7 +236,7 @@ module _ (since : ℕ) (start : Image) (mode : Mode) where
   owing-stepped past before after rest h e owing quiet is happens sound enters =
       let owes : Owes mode (Happened h ∷ past) rest = owes-quiet mode past h rest quiet owing.owes in
       record {
-        run = enters_with past before after h e owing.run happens sound enters (quiet_at mode (Happened h ∷ past) rest owes)
+        run = enters_with past before after rest h e (recovers past before rest owing) quiet happens sound enters
             (written-silent mode (Happened h ∷ past) e rest is owes (written-quiet mode past h quiet owing.run.written));
         owes = owes-silent mode (Happened h ∷ past) e rest is owes;
       }

@@ -14,7 +14,7 @@ use Rattle.plain_model.specs.Running.{AllSound, Running, Owing}
 use Rattle.plain_model.proofs.Moments.{Fits, fits_of, now_of, now_next, image_fits}
 use Rattle.plain_model.proofs.LegalAtMoments.{legal_by_moments}
 use Rattle.plain_model.proofs.WrittenAtMoments.{written_by_moments, all_by_moments}
-use Rattle.plain_model.proofs.RunLaws.{near_of}
+use Rattle.plain_model.proofs.NearLaws.{near_of}
 
 sound_fits : (trail : Trail) (t0 : ℕ) (past : Timeline) → Fits trail t0 past → AllSound (image_at trail t0) past → (t : ℕ) → t0 ≤ t → t ≤ now_of t0 past → Sound (image_at trail t)
 sound_fits trail t0 [] fits all t lo hi = let e : t0 ≡ t = omega (arith, lo, hi) in subst (λ m. Sound (image_at trail m)) e all

@@ -8,7 +8,7 @@ use Rattle.cell_world.specs.Sound.{Sound}
 use Rattle.plain_model.specs.declared.history.Entry.{Entry}
 use Rattle.plain_model.specs.Lines.{lines, entry_text}
 use Rattle.plain_model.specs.Timelines.{Timeline, Happened, Entered, image_of, facts_of, history_of, written_of}
-use Rattle.plain_model.specs.Legal.{Unfolds}
+use Rattle.plain_model.specs.Legal.{Unfolds, IsAtRest}
 use Rattle.plain_model.specs.Written.{Mode, EachReply, Summary, WrittenSoFar, WasWritten}
 
 -- each image of the timeline is sound
@@ -49,4 +49,15 @@ Owes Summary past rest = (written_of past ≡ []) × (rest ≡ [])
 -- the run so far, with this still to be written
 pub record Owing (since : ℕ) (start : Image) (mode : Mode) (past : Timeline) (connections : Connections) (rest : Text) : Type 0 where
   pub run : Running since start mode past connections
+  pub owes : Owes mode past rest
+
+-- ---- inside `attach` and `clear`
+
+-- the run so far, where the stores stand for the state of the latest entry up to near
+pub record Recovering (since : ℕ) (start : Image) (mode : Mode) (past : Timeline) (connections : Connections) (rest : Text) : Type 0 where
+  pub unfolds : Unfolds since start past connections
+  pub rests : IsAtRest start past
+  pub sound : AllSound start past
+  pub was_written : WasWritten mode past
+  pub written : WrittenSoFar mode past
   pub owes : Owes mode past rest

@@ -2,19 +2,20 @@
 ghost use Rattle.std.specs.Prelude.{◌≡◌, ◌↔◌, ◌≤◌, ◌++◌, ◌∷◌, [], ℕ, Bool, List, Some, None, drop, take, slice_get};
 ghost use Rattle.cell_world.specs.Texts.{Text};
 ghost use Rattle.cell_world.specs.Images.{Image, Trail, Happening, Wrote, after_one, image_at, end_of_trail, extended};
-ghost use Rattle.cell_world.specs.Plain.{Connections, nobody};
+ghost use Rattle.cell_world.specs.Plain.{PlainState, Connections, nobody};
 ghost use Rattle.cell_world.specs.Meaning.{meaning};
 ghost use Rattle.cell_world.specs.Sound.{Sound};
 ghost use Rattle.plain_model.specs.declared.replies.Reply.{Reply};
 ghost use Rattle.plain_model.specs.declared.replies.Reply.TheVariants as reply;
 ghost use Rattle.plain_model.specs.declared.history.Entry.{Entry};
 ghost use Rattle.plain_model.specs.Timelines.{Timeline, Happened, Entered, image_of, happened_of, history_of, written_of};
+ghost use Rattle.plain_model.specs.Near.{Near};
 ghost use Rattle.plain_model.specs.OnTrail.{reach_of_command};
-ghost use Rattle.plain_model.specs.Legal.{Going, AllGoing, Promises, KeepsPromises, Legal, MayHappen, MayEnter};
+ghost use Rattle.plain_model.specs.Legal.{Going, AllGoing, Promises, KeepsPromises, Legal, IsAtRest, MayHappen, MayEnter};
 ghost use Rattle.plain_model.specs.GoingOn.{GoesOn, TakesUp, NamesOperations};
 ghost use Rattle.plain_model.specs.Written.{Mode, EachReply, Summary, summary, all_lines, IsPrefixOf, WrittenSoFar, WasWritten, WrittenByMoments, AllWritten, last_moment};
 ghost use Rattle.plain_model.specs.ByMoments.{LegalByMoments, TrailByMoments, IsLeastInWayAt, RunsByMoments, from_moment, timeline_at, standing};
-ghost use Rattle.plain_model.specs.Running.{Running, Owing, bytes_of, text_of};
+ghost use Rattle.plain_model.specs.Running.{Running, Owing, Recovering, bytes_of, text_of};
 
 // ---- how the run so far goes on
 
@@ -45,6 +46,26 @@ pub fn run_enters()
     ensures job_step { (since : ℕ) (start : Image) (mode : Mode) (past : Timeline) (before after : Connections) (rest : Text) (h : Happening) (e : Entry) → Owing since start mode past before rest →
         bytes_of h ≡ [] → e.reply ≡ None → MayHappen start past h → Sound (after_one (image_of start past) h) → MayEnter since start (Happened h ∷ past) e before after →
         Owing since start mode (Entered e ∷ Happened h ∷ past) after rest }
+{}
+
+/// Inside `attach` and `clear` the stores stand for the state of the latest entry up to near; with the entry they stand exactly for its state.
+pub fn run_recovers()
+    ensures from { (since : ℕ) (start : Image) (mode : Mode) (past : Timeline) (connections : Connections) (rest : Text) → Owing since start mode past connections rest →
+        Recovering since start mode past connections rest }
+    ensures happened { (since : ℕ) (start : Image) (mode : Mode) (past : Timeline) (connections : Connections) (rest : Text) (h : Happening) → Recovering since start mode past connections rest →
+        bytes_of h ≡ [] → MayHappen start past h → Sound (after_one (image_of start past) h) → IsAtRest start (Happened h ∷ past) → Recovering since start mode (Happened h ∷ past) connections rest }
+    ensures answered { (since : ℕ) (start : Image) (mode : Mode) (past : Timeline) (before after : Connections) (e : Entry) (reply : Reply) → Recovering since start mode past before [] →
+        e.reply ≡ Some reply → MayEnter since start past e before after → Owing since start mode (Entered e ∷ past) after (text_of mode e) }
+    ensures committed { (since : ℕ) (start : Image) (mode : Mode) (past : Timeline) (before after : Connections) (h : Happening) (e : Entry) (reply : Reply) → Recovering since start mode past before [] →
+        bytes_of h ≡ [] → e.reply ≡ Some reply → MayHappen start past h → Sound (after_one (image_of start past) h) → MayEnter since start (Happened h ∷ past) e before after →
+        Owing since start mode (Entered e ∷ Happened h ∷ past) after (text_of mode e) }
+{}
+
+/// Near is an equivalence.
+pub fn near_is_an_equivalence()
+    ensures itself { (a : PlainState) → Near a a }
+    ensures back { (a b : PlainState) → Near a b → Near b a }
+    ensures on { (a b c : PlainState) → Near a b → Near b c → Near a c }
 {}
 
 /// What is to be written may be written at once or in parts, and so may the summary.
