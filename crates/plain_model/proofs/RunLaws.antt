@@ -1,6 +1,6 @@
 -- How the run so far goes on by one thing more.
-use Rattle.std.proofs.Common.{◌≡◌, ℕ, Bool, cond, refl, sym, ap, ◌∙◌, subst, Some, None, Option, is_some, [], ◌∷◌, ◌++◌}
-use Rattle.std.proofs.lemmas.List.{append-nil, append_assoc}
+use Rattle.std.proofs.Common.{◌≡◌, ℕ, Bool, cond, refl, sym, ap, ◌∙◌, subst, Some, None, Option, is_some, [], ◌∷◌, ◌++◌, take, drop}
+use Rattle.std.proofs.lemmas.List.{append-nil, append_assoc, take-append-drop}
 use Rattle.std.proofs.lemmas.Grind.{flat_map-append}
 use Rattle.cell_world.specs.Texts.{Text}
 use Rattle.cell_world.specs.Images.{Image, Happening, Wrote, after_one}
@@ -252,9 +252,20 @@ module _ (since : ℕ) (start : Image) (mode : Mode) where
   pub owing-wrote_all : (past : Timeline) (connections : Connections) (rest : Text) → Owing since start mode past connections rest → Owing since start mode (Happened (Wrote rest) ∷ past) connections []
   owing-wrote_all past connections rest owing = owing-wrote past connections rest [] (record { run = owing.run; owes = subst (Owes mode past) (sym (append-nil rest)) owing.owes })
 
+  -- a front of it
+  pub owing-wrote_front : (past : Timeline) (connections : Connections) (n : ℕ) (rest : Text) → Owing since start mode past connections rest → Owing since start mode (Happened (Wrote (take n rest)) ∷ past) connections (drop n rest)
+  owing-wrote_front past connections n rest owing = owing-wrote past connections (take n rest) (drop n rest) (record { run = owing.run; owes = subst (Owes mode past) (sym (take-append-drop n rest)) owing.owes })
+
 -- ---- the summary
 
 -- it is written in parts
 pub summary-wrote : (since : ℕ) (start : Image) (past : Timeline) (connections : Connections) (part : Text) → Running since start Summary past connections
     → IsPrefixOf (written_of past ++ part) (summary (history_of past)) → Running since start Summary (Happened (Wrote part) ∷ past) connections
 summary-wrote since start past connections part run front = goes_on since start Summary past connections (Wrote part) run tt (sound_now start past run.sound) refl front
+
+-- a front of it, of which nothing was written before
+pub summary-wrote_front : (since : ℕ) (start : Image) (past : Timeline) (connections : Connections) (n : ℕ) → Owing since start Summary past connections []
+    → Running since start Summary (Happened (Wrote (take n (summary (history_of past)))) ∷ past) connections
+summary-wrote_front since start past connections n owing =
+    let text : Text = summary (history_of past) in
+    summary-wrote since start past connections (take n text) owing.run (drop n text, ap (λ bs. (bs ++ take n text) ++ drop n text) owing.owes.0 ∙ take-append-drop n text)

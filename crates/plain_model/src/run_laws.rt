@@ -1,5 +1,5 @@
 //! Laws of a run: how the run so far goes on, and what follows from it at each moment. Each is the contract of a function that does nothing.
-ghost use Rattle.std.specs.Prelude.{◌≡◌, ◌↔◌, ◌≤◌, ◌++◌, ◌∷◌, [], ℕ, Bool, List, Some, None, drop, take, slice_get};
+ghost use Rattle.std.specs.Prelude.{◌≡◌, ◌↔◌, ◌≤◌, ◌+◌, ◌++◌, ◌∷◌, [], ℕ, Bool, List, length, Some, None, drop, take, slice_get};
 ghost use Rattle.cell_world.specs.Texts.{Text};
 ghost use Rattle.cell_world.specs.Images.{Image, Trail, Happening, Wrote, after_one, image_at, end_of_trail, extended};
 ghost use Rattle.cell_world.specs.Plain.{PlainState, Connections, nobody};
@@ -74,8 +74,12 @@ pub fn run_writes()
         Owing since start mode (Happened (Wrote rest) ∷ past) connections [] }
     ensures part { (since : ℕ) (start : Image) (mode : Mode) (past : Timeline) (connections : Connections) (part rest : Text) → Owing since start mode past connections (part ++ rest) →
         Owing since start mode (Happened (Wrote part) ∷ past) connections rest }
+    ensures front { (since : ℕ) (start : Image) (mode : Mode) (past : Timeline) (connections : Connections) (n : ℕ) (rest : Text) → Owing since start mode past connections rest →
+        Owing since start mode (Happened (Wrote (take n rest)) ∷ past) connections (drop n rest) }
     ensures summary { (since : ℕ) (start : Image) (past : Timeline) (connections : Connections) (part : Text) → Running since start Summary past connections →
         IsPrefixOf (written_of past ++ part) (summary (history_of past)) → Running since start Summary (Happened (Wrote part) ∷ past) connections }
+    ensures summary_front { (since : ℕ) (start : Image) (past : Timeline) (connections : Connections) (n : ℕ) → Owing since start Summary past connections [] →
+        Running since start Summary (Happened (Wrote (take n (summary (history_of past)))) ∷ past) connections }
 {}
 
 // ---- what follows from it at each moment
@@ -96,6 +100,14 @@ pub fn all_is_written()
         written_of past ≡ all_lines mode (history_of past) → AllWritten mode trail t0 (history_of past) }
 {}
 
+/// What happened since the run began is the rest of the trail: the moment that is now is its end, the stores are its last image, and it goes on as the trail does.
+pub fn runs_on_its_trail()
+    ensures moment { (trail : Trail) (t0 : ℕ) (past : Timeline) → t0 ≤ end_of_trail trail → happened_of past ≡ drop t0 trail.happened → t0 + length (happened_of past) ≡ end_of_trail trail }
+    ensures image { (trail : Trail) (t0 : ℕ) (past : Timeline) → t0 ≤ end_of_trail trail → happened_of past ≡ drop t0 trail.happened → image_of (image_at trail t0) past ≡ image_at trail (end_of_trail trail) }
+    ensures grows { (trail : Trail) (t0 : ℕ) (past : Timeline) (h : Happening) → t0 ≤ end_of_trail trail → happened_of past ≡ drop t0 trail.happened →
+        happened_of (Happened h ∷ past) ≡ drop t0 (extended trail h).happened }
+{}
+
 // ---- the order in which all came, and the moments
 
 /// What is legal in some order is legal at each moment, and the other way round. There is but one such order.
@@ -104,8 +116,6 @@ pub fn moments_tell_the_order()
     ensures in_order { (trail : Trail) (t0 : ℕ) (going : AllGoing) (history : List Entry) → t0 ≤ end_of_trail trail → LegalByMoments trail t0 going history → Legal t0 (from_moment trail t0) going history }
     ensures one { (trail : Trail) (t0 : ℕ) (going : AllGoing) (history : List Entry) → t0 ≤ end_of_trail trail → (legal : Legal t0 (from_moment trail t0) going history) →
         legal.timeline ≡ timeline_at trail t0 history (end_of_trail trail) }
-    ensures grows { (trail : Trail) (t0 : ℕ) (past : Timeline) (h : Happening) → t0 ≤ end_of_trail trail → happened_of past ≡ drop t0 trail.happened →
-        happened_of (Happened h ∷ past) ≡ drop t0 (extended trail h).happened }
 {}
 
 /// So it is with what is written.

@@ -1,6 +1,6 @@
 use Rattle.plain_model.proofs.LegalAtMoments.{legal_by_moments}
 use Rattle.plain_model.proofs.LegalBack.{legal_from_moments}
-use Rattle.plain_model.proofs.OneTimeline.{one_timeline, stretch_grows}
+use Rattle.plain_model.proofs.OneTimeline.{one_timeline}
 use Rattle.plain_model.proofs.run_laws.moments_tell_the_order.Goals as goal
 
 pub returns-clause-at_moments : goal.returns-clause-at_moments
@@ -11,6 +11,3 @@ returns-clause-in_order c = legal_from_moments
 
 pub returns-clause-one : goal.returns-clause-one
 returns-clause-one c = one_timeline
-
-pub returns-clause-grows : goal.returns-clause-grows
-returns-clause-grows c = stretch_grows
