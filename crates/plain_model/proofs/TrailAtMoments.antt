@@ -9,6 +9,7 @@ use Rattle.cell_world.specs.Images.{Image, Happening, Committed, Wrote, Reopened
 use Rattle.cell_world.specs.Plain.{Connections}
 use Rattle.cell_world.specs.Meaning.{meaning, next_operation}
 use Rattle.cell_world.specs.declared.changes.Edit.{Edit}
+use Rattle.cell_world.specs.declared.operations.Op.{Op}
 use Rattle.plain_model.specs.declared.history.Entry.{Entry}
 use Rattle.plain_model.specs.Differing.{clean}
 use Rattle.plain_model.specs.Timelines.{Timeline, Happened, Entered, image_of, happened_of, history_of}
@@ -52,6 +53,12 @@ past_at trail t0 (Happened g ∷ past) cs u fits t h lo hi at = ⊎_elim
     })
     (cases_lt t (now_of t0 past))
 
+-- a commit that keeps to the counter puts one log cell at most
+few_logs : (old new : ℕ) (ops : List Op) → KeepsCounter old new ops → length ops ≤ 1
+few_logs old new [] h = omega arith
+few_logs old new (op ∷ []) h = omega arith
+few_logs old new (op ∷ other ∷ ops) h = absurd h
+
 module _ (trail : Trail) (t0 : ℕ) where
   further : (location : Text) (h : Happening) (past : Timeline) → WasReopenedBy trail (last_moment t0 (history_of past)) (now_of t0 past) location → WasReopenedBy trail (last_moment t0 (history_of past)) (now_of t0 (Happened h ∷ past)) location
   further location h past w = record { moment = w.moment; at = w.at; cells = w.cells; after = w.after; before = omega (arith, w.before, now_next t0 past h); reopened = w.reopened; here = w.here }
@@ -86,14 +93,23 @@ module _ (trail : Trail) (t0 : ℕ) where
         subst (λ (y : Image). KeepsCounter (next_operation (image_at trail t)) (next_operation y) (logs_put change)) (sym (image_more trail t h at))
         (subst (λ (x : Image). KeepsCounter (next_operation x) (next_operation (after_one x h)) (logs_put change)) (image_then history t h p) p.happens);
     no_reopening = λ t cells lo at. (pasts t (Reopened Global cells) lo at).happens;
-    shard = λ t location change lo at. let h : Happening = Committed (Shard location) change true in let p : PastAt trail t0 history t h = pasts t h lo at in p.happens.0;
+    one = λ t change took lo at. one_at t change took (pasts t (Committed Global change took) lo at);
+    shard = λ t location change took lo at. shard_at t location change took (pasts t (Committed (Shard location) change took) lo at);
     detached = λ t location change took lo at gone. detached_at t location change took lo at gone (pasts t (Committed (Shard location) change took) lo at);
     kept = λ t location change lo at gone. let h : Happening = Committed (Shard location) change true in let p : PastAt trail t0 history t h = pasts t h lo at in
         let old : IsDetachedIn (image_of (image_at trail t0) p.past) location = ap (λ i. map.get (global i).away location) (image_then history t h p) ∙ gone in
         subst (λ (y : Image). clean (meaning (image_at trail t)) location (y.at (Shard location)) ≡ clean (meaning (image_at trail t)) location ((image_at trail t).at (Shard location))) (sym (image_more trail t h at))
-        (subst (λ (x : Image). clean (meaning x) location ((after_one x h).at (Shard location)) ≡ clean (meaning x) location (x.at (Shard location))) (image_then history t h p) (p.happens.1 old).clean);
+        (subst (λ (x : Image). clean (meaning x) location ((after_one x h).at (Shard location)) ≡ clean (meaning x) location (x.at (Shard location))) (image_then history t h p) (p.happens.1 old).kept);
   }
     where
+      one_at : (t : ℕ) (change : List Edit) (took : Bool) → PastAt trail t0 history t (Committed Global change took) → length (logs_put change) ≤ 1
+      one_at t change true p = few_logs _ _ (logs_put change) p.happens
+      one_at t change false p = p.happens
+
+      shard_at : (t : ℕ) (location : Text) (change : List Edit) (took : Bool) → PastAt trail t0 history t (Committed (Shard location) change took) → logs_put change ≡ []
+      shard_at t location change true p = p.happens.0
+      shard_at t location change false p = p.happens.0
+
       detached_at : (t : ℕ) (location : Text) (change : List Edit) (took : Bool) → t0 ≤ t → slice_get trail.happened t ≡ Some (Committed (Shard location) change took)
           → IsDetachedIn (image_at trail t) location → PastAt trail t0 history t (Committed (Shard location) change took) → WasReopenedBy trail (last_moment t0 (by_moment t history)) t location
       detached_at t location change true lo at gone p =
@@ -101,7 +117,7 @@ module _ (trail : Trail) (t0 : ℕ) where
           reopened_then history t h location p (p.happens.1 (ap (λ i. map.get (global i).away location) (image_then history t h p) ∙ gone)).reopened
       detached_at t location change false lo at gone p =
           let h : Happening = Committed (Shard location) change false in
-          reopened_then history t h location p (p.happens (ap (λ i. map.get (global i).away location) (image_then history t h p) ∙ gone))
+          reopened_then history t h location p (p.happens.1 (ap (λ i. map.get (global i).away location) (image_then history t h p) ∙ gone))
 
 -- a legal history's trail
 pub trail_by_moments : (trail : Trail) (t0 : ℕ) (going : AllGoing) (history : List Entry) → t0 ≤ end_of_trail trail → Legal t0 (from_moment trail t0) going history → TrailByMoments trail t0 history

@@ -55,8 +55,11 @@ timeline_at trail t0 entries m = woven trail [] t0 entries m
 
 -- An entry follows from the state of the entries before it to its own.
 pub record FollowsAt (trail : Trail) (t0 : ℕ) (earlier : List Entry) (e : Entry) (before after : Connections) : Type 0 where
+  -- by its reply, of states and of the entries before
   pub follows : Follows (past_of (image_at trail t0) (timeline_at trail t0 earlier e.moment)) (standing trail (last_moment t0 earlier) before) e (standing trail e.moment after) e.reply
+  -- and of the trail
   pub on_trail : OnTrail (image_at trail t0) (timeline_at trail t0 earlier e.moment) (standing trail (last_moment t0 earlier) before) e (standing trail e.moment after) e.reply
+  -- a step of a job was planned
   pub planned : IsPlanned (image_at trail t0) (timeline_at trail t0 earlier e.moment) (standing trail (last_moment t0 earlier) before) (standing trail e.moment after) (asked_job (standing trail (last_moment t0 earlier) before) e.command)
 
 pub record LegalByMoments (trail : Trail) (t0 : ℕ) (going : AllGoing) (history : List Entry) : Type 0 where
@@ -80,9 +83,9 @@ pub record LegalByMoments (trail : Trail) (t0 : ℕ) (going : AllGoing) (history
 
 -- the site was reopened from moment a on and before moment t
 pub record WasReopenedBy (trail : Trail) (a t : ℕ) (location : Text) : Type 0 where
-  pub moment : ℕ
-  pub at : Text
-  pub cells : Store
+  pub moment : ℕ  -- when
+  pub at : Text  -- where
+  pub cells : Store  -- with what the outside gave
   pub after : a ≤ moment
   pub before : moment < t
   pub reopened : slice_get trail.happened moment ≡ Some (Reopened (Shard at) cells)
@@ -92,8 +95,10 @@ pub record TrailByMoments (trail : Trail) (t0 : ℕ) (history : List Entry) : Ty
   -- the operation number changes only in a commit that puts one log cell, which has the number that stood
   pub counter : (t : ℕ) (change : List Edit) → t0 ≤ t → slice_get trail.happened t ≡ Some (Committed Global change true)
       → KeepsCounter (next_operation (image_at trail t)) (next_operation (image_at trail (t + 1))) (logs_put change)
-  -- no log cell is put at a shard
-  pub shard : (t : ℕ) (location : Text) (change : List Edit) → t0 ≤ t → slice_get trail.happened t ≡ Some (Committed (Shard location) change true) → logs_put change ≡ []
+  -- no commit, made or not, puts two log cells
+  pub one : (t : ℕ) (change : List Edit) (took : Bool) → t0 ≤ t → slice_get trail.happened t ≡ Some (Committed Global change took) → length (logs_put change) ≤ 1
+  -- none puts a log cell at a shard
+  pub shard : (t : ℕ) (location : Text) (change : List Edit) (took : Bool) → t0 ≤ t → slice_get trail.happened t ≡ Some (Committed (Shard location) change took) → logs_put change ≡ []
   -- no reopening concerns the global store
   pub no_reopening : (t : ℕ) (cells : Store) → t0 ≤ t → slice_get trail.happened t ≡ Some (Reopened Global cells) → ⊥
   -- a commit, made or not, at a detached site comes after a reopening of it, with no entry's moment between
@@ -108,8 +113,8 @@ pub record TrailByMoments (trail : Trail) (t0 : ℕ) (history : List Entry) : Ty
 
 -- a commit from moment a on and before moment t put the log cell
 pub record WasLoggedBetween (trail : Trail) (a t number : ℕ) : Type 0 where
-  pub moment : ℕ
-  pub change : List Edit
+  pub moment : ℕ  -- when
+  pub change : List Edit  -- by which change
   pub after : a ≤ moment
   pub before : moment < t
   pub committed : slice_get trail.happened moment ≡ Some (Committed Global change true)
@@ -127,14 +132,18 @@ pub record LiveAt (trail : Trail) (t0 : ℕ) (earlier : List Entry) (t : ℕ) (o
 -- the least live operation in the way of what is reached
 pub record IsLeastInWayAt (trail : Trail) (t0 : ℕ) (earlier : List Entry) (t : ℕ) (reached : Reach) (number : ℕ) : Type 0 where
   pub op : Op
-  pub named : op.number ≡ number
-  pub live : LiveAt trail t0 earlier t op
-  pub in_way : IsTrue (conflicts reached op)
+  pub named : op.number ≡ number  -- it has the number
+  pub live : LiveAt trail t0 earlier t op  -- it is live
+  pub in_way : IsTrue (conflicts reached op)  -- and conflicts with what is reached
+  -- no live one that does has a lesser number
   pub least : (other : Op) → LiveAt trail t0 earlier t other → IsTrue (conflicts reached other) → number ≤ other.number
 
 -- ---- the run, at each of its moments
 
 pub record RunsByMoments (mode : Mode) (trail : Trail) (t0 : ℕ) (going : AllGoing) (history : List Entry) : Type 0 where
+  -- the stores are sound at each moment
   pub sound : (t : ℕ) → t0 ≤ t → t ≤ end_of_trail trail → Sound (image_at trail t)
+  -- the history is legal
   pub legal : LegalByMoments trail t0 going history
+  -- only what happened is written
   pub written : WrittenByMoments mode trail t0 history

@@ -81,8 +81,3 @@ cache_after cache s place (command.Open number name text) r =
     if leaves_cache r then cache else after_open cache s.away place name (type_of_map s name) (key_in s name text) (mapping_of s name text)
 cache_after cache s place (command.Unmap name) r = if is_refused r then cache else forget_map cache name
 cache_after cache s place other r = cache
-
--- the cache after these entries, of which each stands with the state in which it was made, when the first has this place
-abbrev pub cache_over : Cache → ℕ → List (PlainState × Entry) → Cache
-cache_over cache place [] = cache
-cache_over cache place (e ∷ es) = cache_over (cache_after cache e.0 place e.1.command e.1.reply) (place + 1) es

@@ -1,6 +1,6 @@
 -- What may stand after an entry, by its reply: what is said of states and of the entries before.
 -- (What is said of the trail besides stands in `OnTrail`.)
-use Rattle.std.specs.Prelude.{◌≡◌, ◌⊎◌, ℕ, ◌≤◌, ◌<◌, Bool, true, false, ◌||◌, ◌==◌, List, [], ◌∷◌, length, Option, Some, None, IsTrue, IsSome, is_some}
+use Rattle.std.specs.Prelude.{◌≡◌, ◌⊎◌, ℕ, ◌≤◌, ◌<◌, Bool, true, false, ◌||◌, [], ◌∷◌, length, Option, Some, None, IsTrue, IsSome}
 use Rattle.std.specs.FinMap as map
 use Rattle.cell_world.specs.Texts.{Text}
 use Rattle.cell_world.specs.Lists.{IsOneOf}
@@ -12,13 +12,11 @@ use Rattle.cell_world.specs.declared.cells.KeyType.{KeyType}
 use Rattle.cell_world.specs.declared.operations.Piece.{Piece}
 use Rattle.cell_world.specs.declared.operations.JobRow.{JobRow}
 use Rattle.cell_world.specs.declared.operations.Phase.TheVariants as phase
-use Rattle.cell_world.specs.declared.spans.Span.{Span}
 use Rattle.cell_world.specs.declared.spans.High.TheVariants.{At}
 use Rattle.plain_model.specs.declared.commands.Command.{Command}
 use Rattle.plain_model.specs.declared.commands.Command.TheVariants as command
 use Rattle.plain_model.specs.declared.replies.Reply.{Reply}
 use Rattle.plain_model.specs.declared.replies.Reply.TheVariants as reply
-use Rattle.plain_model.specs.declared.replies.Refusal.{Refusal}
 use Rattle.plain_model.specs.declared.replies.Refusal.TheVariants as refused
 use Rattle.plain_model.specs.declared.history.Entry.{Entry}
 use Rattle.plain_model.specs.Refusing.{refusal, mapping_of, type_of_map}
@@ -33,13 +31,14 @@ use Rattle.plain_model.specs.JobSteps.{asked_number, asked_job, TakesJobStep, is
 -- what the site of an accepted `detach` or `attach` holds from then on is said of the trail
 pub record FollowsPlainly (A B : PlainState) (e : Entry) (answer : Reply) : Type 0 where
   pub held : Held
+  -- the state and the answer are the plain step's
   pub step : plain_step held A e.session e.command ≡ (B, answer)
 
 -- ---- `job-running`: the job stands, and nothing changes
 
-pub record FollowsRunning (A B : PlainState) (e : Entry) : Type 0 where
-  pub same : A ≡ B
-  pub stands : IsSome (asked_job A e.command)
+pub record FollowsJobRunning (A B : PlainState) (e : Entry) : Type 0 where
+  pub same : A ≡ B  -- nothing changes
+  pub stands : IsSome (asked_job A e.command)  -- the job of the command stands
 
 -- ---- `full`: the plain step's, or no operation number is left
 
@@ -58,10 +57,12 @@ takes_number (command.Run number) = true
 takes_number other = false
 
 pub record NumbersAreSpent (A B : PlainState) (e : Entry) : Type 0 where
-  pub same : A ≡ B
-  -- after all its other refusals
+  pub same : A ≡ B  -- nothing changes
+  -- no other refusal holds
   pub accepted : refusal A e.session e.command ≡ None
+  -- and the command needs a number; the finish of a job needs none
   pub takes : IsTrue (takes_number e.command)
+  pub no_finish : is_finish_step A e.command ≡ false
 
 -- ---- no reply: a step of a job
 
@@ -69,6 +70,7 @@ pub record FollowsJobStep (A B : PlainState) (e : Entry) : Type 0 where
   -- the command is a `step` or a `run` of a job that stands
   pub job : JobRow
   pub asked : asked_job A e.command ≡ Some job
+  -- and B is A after its next step
   pub step : TakesJobStep A B job
 
 -- ---- `cursor KEY`
@@ -110,9 +112,9 @@ pub record FollowsDone (past : Past) (A B : PlainState) (e : Entry) (number : �
 -- ---- `pending P`
 
 pub record FollowsPending (A B : PlainState) (e : Entry) : Type 0 where
-  pub same : A ≡ B
-  pub accepted : refusal A e.session e.command ≡ None
-  pub no_job : asked_number e.command ≡ None
+  pub same : A ≡ B  -- nothing changes
+  pub accepted : refusal A e.session e.command ≡ None  -- the plain step would not refuse
+  pub no_job : asked_number e.command ≡ None  -- the command isn't `step` or `run`
 
 -- ---- `fault`
 
@@ -147,6 +149,7 @@ cache_of [] = []
 cache_of (m ∷ past) = cache_after (cache_of past) m.before (length past) m.entry.command m.entry.reply
 
 pub record FollowsUnknown (past : Past) (A B : PlainState) (e : Entry) : Type 0 where
+  -- the command is `peek`, and nothing changes
   pub name : Text
   pub text : Text
   pub asked : e.command ≡ command.Peek name text
@@ -168,6 +171,7 @@ WasLearnt (m ∷ past) session k =
     ⊎ ((k.place < length past) × (m.entry.session ≡ session → Drops m past k → ⊥) × WasLearnt past session k)
 
 pub record FollowsKnown (past : Past) (A B : PlainState) (e : Entry) (k : Learnt) : Type 0 where
+  -- the command is a `peek` of the span's map, and nothing changes
   pub text : Text
   pub asked : e.command ≡ command.Peek k.map text
   pub same : A ≡ B
@@ -175,6 +179,7 @@ pub record FollowsKnown (past : Past) (A B : PlainState) (e : Entry) (k : Learnt
   pub key : Text
   pub form : normal_of k.type text ≡ Some key
   pub contained : IsTrue (contains k.span key)
+  -- the span was learnt in this run, and this session hasn't dropped it
   pub learnt : WasLearnt past e.session k
 
 -- ---- follows
@@ -193,6 +198,6 @@ Follows past A e B (Some (reply.Known type span location place)) = FollowsKnown 
     peeked : Command → Text
     peeked (command.Peek name text) = name
     peeked other = []
-Follows past A e B (Some (reply.Refused refused.JobRunning)) = FollowsRunning A B e
+Follows past A e B (Some (reply.Refused refused.JobRunning)) = FollowsJobRunning A B e
 Follows past A e B (Some (reply.Refused refused.Full)) = FollowsPlainly A B e (reply.Refused refused.Full) ⊎ NumbersAreSpent A B e
 Follows past A e B (Some answer) = FollowsPlainly A B e answer

@@ -73,8 +73,10 @@ stepped s job Stuck = None
 
 -- B is A after the next row of the job's table; where the row depends on the batch end, with some end that a batch may have.
 pub record TakesJobStep (A B : PlainState) (job : JobRow) : Type 0 where
+  -- the row gives a step
   pub step : Step
   pub row : Gives (IsBatchEnd (owner A) job) (table_row (owner A) A.mappings job) step
+  -- which makes B of A
   pub after : stepped A job step ≡ Some B
 
 -- ---- which step it is
@@ -114,5 +116,5 @@ JustBefore (m ∷ past) session number test = (m.entry.session ≡ session) × (
 
 -- The job's next step takes this mapping offline, which is its batch.
 pub record IsOfflineStep (A : PlainState) (job : JobRow) (p : Piece) : Type 0 where
-  pub put : Extra
+  pub put : Extra  -- what it does to the job
   pub row : Gives (IsBatchEnd (owner A) job) (table_row (owner A) A.mappings job) (Replace (p ∷ []) (record p { status = Offline } ∷ []) put)

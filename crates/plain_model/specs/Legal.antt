@@ -1,5 +1,5 @@
 -- Which histories a run may have on a trail, with the order in which all came as the witness.
-use Rattle.std.specs.Prelude.{◌≡◌, ◌≢◌, ◌⊎◌, ℕ, ◌+◌, Bool, true, false, ◌&&◌, ◌==◌, List, [], ◌∷◌, length, Option, Some, None, find, is_some}
+use Rattle.std.specs.Prelude.{◌≡◌, ◌≢◌, ◌⊎◌, ℕ, ◌+◌, ◌≤◌, Bool, true, false, ◌&&◌, ◌==◌, List, [], ◌∷◌, length, Option, Some, None, find, is_some}
 use Rattle.std.specs.FinMap as map
 use Rattle.cell_world.specs.Texts.{Text}
 use Rattle.cell_world.specs.Spelled.{listed}
@@ -39,10 +39,12 @@ KeepsCounter old new ops = ⊥
 abbrev pub IsDetachedIn : Image → Text → Type 0
 IsDetachedIn image location = map.get (global image).away location ≡ Some away.Detached
 
--- a commit at a detached site comes after a reopening of it, with no entry between, and leaves what `attach` would keep of its cells
+-- a commit at a detached site
 pub record Mends (past : Timeline) (location : Text) (before after : Image) : Type 0 where
+  -- comes after a reopening of it, with no entry between
   pub reopened : was_reopened location past ≡ true
-  pub clean : clean (meaning before) location (after.at (Shard location)) ≡ clean (meaning before) location (before.at (Shard location))
+  -- and leaves what `attach` would keep of its cells
+  pub kept : clean (meaning before) location (after.at (Shard location)) ≡ clean (meaning before) location (before.at (Shard location))
 
 -- a commit that was made: at the global store it keeps to the counter; at a shard it puts no log cell
 abbrev pub MayCommit : Timeline → Place → List Edit → Image → Image → Type 0
@@ -51,9 +53,9 @@ MayCommit past (Shard location) change before after = (logs_put change ≡ []) �
 
 abbrev pub MayHappen : Image → Timeline → Happening → Type 0
 MayHappen start past (Committed place change true) = MayCommit past place change (image_of start past) (image_of start (Happened (Committed place change true) ∷ past))
--- one that wasn't made at a detached site came after a reopening too
-MayHappen start past (Committed (Shard location) change false) = IsDetachedIn (image_of start past) location → was_reopened location past ≡ true
-MayHappen start past (Committed Global change false) = Unit {0}
+-- one that wasn't made was to put no log cell at a shard either, and came after a reopening too; at the global store it was to put one at most
+MayHappen start past (Committed (Shard location) change false) = (logs_put change ≡ []) × (IsDetachedIn (image_of start past) location → was_reopened location past ≡ true)
+MayHappen start past (Committed Global change false) = length (logs_put change) ≤ 1
 MayHappen start past (Wrote bytes) = Unit {0}
 -- no reopening concerns the global store
 MayHappen start past (Reopened Global cells) = ⊥
@@ -63,8 +65,10 @@ MayHappen start past (Reopened (Shard location) cells) = Unit {0}
 
 -- the operation is the job's next step in the image
 pub record IsPlannedIn (image : Image) (number : ℕ) (op : Op) : Type 0 where
+  -- the job of this number stands there
   pub job : JobRow
   pub stands : map.get (global image).jobs number ≡ Some job
+  -- and the operation is the row of its table
   pub row : job_step (meaning image) job ≡ Replace (listed op.olds) (listed op.news) op.extra
 
 -- Its log cell was put in this run, on an image in which it was.
@@ -81,8 +85,9 @@ image_before start past = image_of start past
 
 -- a step of a job that was made by an operation: it stood in the log up to then, was planned, and the step is what it does
 pub record IsMadeBy (start : Image) (past : Timeline) (A B : PlainState) (job : JobRow) (op : Op) : Type 0 where
-  pub logged : HasLog (global (image_before start past)).log op
-  pub planned : WasPlanned start job.number op past
+  pub logged : HasLog (global (image_before start past)).log op  -- it stood in the log just before
+  pub planned : WasPlanned start job.number op past  -- it was the table's row when it was logged
+  -- and the step is what it does
   pub step : stepped A job (Replace (listed op.olds) (listed op.news) op.extra) ≡ Some B
 
 -- An entry of a `step` or a `run`, answered or not, changes no mapping and no job, or is the finish, or was made by an operation.
@@ -96,9 +101,11 @@ IsPlanned start past A B (Some job) = ((B.mappings ≡ A.mappings) × (B.jobs �
 pub record MayEnter (since : ℕ) (start : Image) (past : Timeline) (e : Entry) (before after : Connections) : Type 0 where
   -- its moment is now; `since` is the moment of the start
   pub moment : e.moment ≡ since + length (happened_of past)
-  -- it follows from the state before it to its own
+  -- by its reply, of states and of the entries before
   pub follows : Follows (past_of start past) (with_connections (facts_of start past) before) e (with_connections (meaning (image_of start past)) after) e.reply
+  -- and of the trail
   pub on_trail : OnTrail start past (with_connections (facts_of start past) before) e (with_connections (meaning (image_of start past)) after) e.reply
+  -- a step of a job was planned
   pub planned : IsPlanned start past (with_connections (facts_of start past) before) (with_connections (meaning (image_of start past)) after) (asked_job (facts_of start past) e.command)
 
 -- The timeline may come about, with these connections at its end.
@@ -111,8 +118,8 @@ Unfolds since start (Entered e ∷ past) connections = (before : Connections) ×
 
 -- what a session has going: a command, and the number of its live operation or 0
 pub record Going : Type 0 where
-  pub command : Command
-  pub operation : ℕ
+  pub command : Command  -- not yet answered
+  pub operation : ℕ  -- live, or 0
 
 -- by session
 abbrev pub AllGoing : Type 0
@@ -144,15 +151,17 @@ IsAtOperation number None None = ⊥
 -- after `job-running` another session's next answer is to the job
 pub record PromisesJob (going : AllGoing) (e : Entry) (later : List Entry) : Type 0 where
   pub other : ℕ
-  pub is_other : other ≢ e.session
+  pub is_other : other ≢ e.session  -- another session
   pub number : ℕ
-  pub asked : asked_number e.command ≡ Some number
+  pub asked : asked_number e.command ≡ Some number  -- the job that was asked for
+  -- is at it
   pub at_job : IsAtJob number (going other) (next_answered other later)
 
 -- after `pending P` another session's next entry names P
 pub record PromisesOperation (going : AllGoing) (e : Entry) (later : List Entry) (number : ℕ) : Type 0 where
   pub other : ℕ
-  pub is_other : other ≢ e.session
+  pub is_other : other ≢ e.session  -- another session
+  -- is at the operation
   pub at_operation : IsAtOperation number (going other) (next_of other later)
 
 abbrev pub Promises : AllGoing → Entry → List Entry → Option Reply → Type 0
@@ -175,6 +184,9 @@ pub record Legal (since : ℕ) (trail : Trail) (going : AllGoing) (history : Lis
   pub entries : history_of timeline ≡ history
   -- the connections at the end
   pub connections : Connections
+  -- it may have come about so
   pub unfolds : Unfolds since trail.start timeline connections
+  -- at the end too the stores stand for the state after the latest entry
   pub rests : IsAtRest trail.start timeline
+  -- what entries say of later ones is so
   pub promises : KeepsPromises going history

@@ -8,7 +8,7 @@ use Rattle.cell_world.specs.Lists.{SomeOf}
 use Rattle.cell_world.specs.Keys.{same}
 use Rattle.cell_world.specs.Spelled.{listed}
 use Rattle.cell_world.specs.Stores.{Store, empty_store}
-use Rattle.cell_world.specs.Images.{Image, Global, Shard, Happening, Committed, Wrote, Reopened, global}
+use Rattle.cell_world.specs.Images.{Image, Global, Shard, Committed, Reopened, global}
 use Rattle.cell_world.specs.Plain.{PlainState, Held, holds_nothing}
 use Rattle.cell_world.specs.Meaning.{next_operation}
 use Rattle.cell_world.specs.Operations.{hull_of, conflicts}
@@ -24,7 +24,7 @@ use Rattle.cell_world.specs.declared.cells.Cell.TheVariants as cell
 use Rattle.cell_world.specs.declared.cells.Status.TheVariants.{Offline}
 use Rattle.cell_world.specs.declared.spans.Span.{Span}
 use Rattle.cell_world.specs.declared.changes.Edit.{Edit}
-use Rattle.cell_world.specs.declared.changes.Edit.TheVariants.{Put, Delete}
+use Rattle.cell_world.specs.declared.changes.Edit.TheVariants.{Put}
 use Rattle.plain_model.specs.declared.commands.Command.{Command}
 use Rattle.plain_model.specs.declared.commands.Command.TheVariants as command
 use Rattle.plain_model.specs.declared.commands.Side.TheVariants as side
@@ -35,7 +35,7 @@ use Rattle.plain_model.specs.declared.replies.Refusal.TheVariants as refused
 use Rattle.plain_model.specs.declared.history.Entry.{Entry}
 use Rattle.plain_model.specs.Differing.{clean}
 use Rattle.plain_model.specs.Refusing.{refusal, mapping_of, nth_difference}
-use Rattle.plain_model.specs.Steps.{plain_step, exchange_of}
+use Rattle.plain_model.specs.Steps.{plain_step, exchange_of, ended_under}
 use Rattle.plain_model.specs.Timelines.{Timeline, Happened, Entered, image_of}
 use Rattle.plain_model.specs.Near.{Near}
 use Rattle.plain_model.specs.JobSteps.{asked_job, TakesJobStep, with_ended}
@@ -102,9 +102,10 @@ reach_of_command s other = reach_of_pieces ((exchange_of s other).0 ++ (exchange
 -- `pending P` names the least live operation that conflicts with the command's reach
 pub record IsLeastInWay (start : Image) (past : Timeline) (reached : Reach) (number : ℕ) : Type 0 where
   pub op : Op
-  pub named : op.number ≡ number
-  pub live : IsLive start past op
-  pub in_way : IsTrue (conflicts reached op)
+  pub named : op.number ≡ number  -- it has the number
+  pub live : IsLive start past op  -- it is live
+  pub in_way : IsTrue (conflicts reached op)  -- and conflicts with what is reached
+  -- no live one that does has a lesser number
   pub least : (other : Op) → IsLive start past other → IsTrue (conflicts reached other) → number ≤ other.number
 
 -- ---- what a site holds after `detach` and `attach`
@@ -151,22 +152,22 @@ WasTried session P (Entered e ∷ past) = MatchBool (e.session == session) ⊥ (
 -- the operation of this number takes the mapping offline, and does no more
 pub record TakesOffline (number : ℕ) (p : Piece) (op : Op) : Type 0 where
   pub numbered : op.number ≡ number
-  pub old : listed op.olds ≡ p ∷ []
+  pub old : listed op.olds ≡ p ∷ []  -- its one old is the mapping
   pub new : listed op.news ≡ record p { status = Offline } ∷ []
 
 -- Once the putting of its own log cell was tried, a faulted `offline` has ended the connections of its mapping in both cases.
 abbrev pub EndsIfTried : Timeline → Entry → PlainState → PlainState → Option Piece → Type 0
 EndsIfTried past e A B None = Unit {0}
-EndsIfTried past e A B (Some p) = WasTried e.session (TakesOffline e.operation p) past
-    → ((held : Held) × (B ≡ (plain_step held A e.session e.command).0)) ⊎ (B ≡ with_ended A (Some p))
+EndsIfTried past e A B (Some p) = WasTried e.session (TakesOffline e.operation p) past → B.connections ≡ ended_under (Some p) A.connections
 
 -- the job's next step, with the batch end of now, takes the mapping offline
 abbrev pub IsOfflineNow : PlainState → JobRow → Piece → Type 0
 IsOfflineNow A job p = (put : Extra) × (job_step A job ≡ Replace (p ∷ []) (record p { status = Offline } ∷ []) put)
 
--- so in a job; and connections end without the step only where it is the offline, or was tried
 pub record FaultInJob (past : Timeline) (e : Entry) (A B : PlainState) (job : JobRow) : Type 0 where
-  pub tried : (p : Piece) → WasTried e.session (TakesOffline e.operation p) past → TakesJobStep A B job ⊎ (B ≡ with_ended A (Some p))
+  -- so in a job
+  pub tried : (p : Piece) → WasTried e.session (TakesOffline e.operation p) past → B.connections ≡ ended_under (Some p) A.connections
+  -- connections end without the step only where it is the offline, or where the one that was tried is
   pub cause : (B ≡ A) ⊎ TakesJobStep A B job
       ⊎ ((p : Piece) × (IsOfflineNow A job p ⊎ WasTried e.session (TakesOffline e.operation p) past) × (B ≡ with_ended A (Some p)))
 

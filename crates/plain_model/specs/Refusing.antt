@@ -64,8 +64,8 @@ abbrev pub mapping_of : PlainState → Text → Text → Option Piece
 mapping_of s name text = option_and_then (owner s name) (key_in s name text)
 
 -- where a mapping is
-abbrev pub place_of_mapping : Option Piece → Option Text
-place_of_mapping piece = option_map (λ p. p.location) piece
+abbrev pub location_of_mapping : Option Piece → Option Text
+location_of_mapping piece = option_map (λ p. p.location) piece
 
 abbrev pub connection_of : PlainState → ℕ → ℕ → Option Connection
 connection_of s session number = s.connections session number
@@ -361,35 +361,35 @@ checks s session (command.Addpoint name key location) =
     ∷ overlap s name (option_map Point (key_in s name key)) ∷ []
 checks s session (command.Delete name key token) =
     let piece = mapping_of s name key in
-    no_map s name ∷ bad_key (key_in s name key) ∷ no_mapping piece ∷ detached s (place_of_mapping piece) ∷ unresolved s (place_of_mapping piece)
+    no_map s name ∷ bad_key (key_in s name key) ∷ no_mapping piece ∷ detached s (location_of_mapping piece) ∷ unresolved s (location_of_mapping piece)
     ∷ locked token piece ∷ not_offline piece ∷ rows_present s piece ∷ []
 checks s session (command.Offline name key token) =
     let piece = mapping_of s name key in
-    no_map s name ∷ bad_key (key_in s name key) ∷ no_mapping piece ∷ detached s (place_of_mapping piece) ∷ unresolved s (place_of_mapping piece)
+    no_map s name ∷ bad_key (key_in s name key) ∷ no_mapping piece ∷ detached s (location_of_mapping piece) ∷ unresolved s (location_of_mapping piece)
     ∷ locked token piece ∷ same_status_already status.Offline piece ∷ []
 checks s session (command.Online name key token) =
     let piece = mapping_of s name key in
-    no_map s name ∷ bad_key (key_in s name key) ∷ no_mapping piece ∷ detached s (place_of_mapping piece) ∷ unresolved s (place_of_mapping piece)
+    no_map s name ∷ bad_key (key_in s name key) ∷ no_mapping piece ∷ detached s (location_of_mapping piece) ∷ unresolved s (location_of_mapping piece)
     ∷ locked token piece ∷ same_status_already status.Online piece ∷ []
 checks s session (command.Move name key location token) =
     let piece = mapping_of s name key in
-    no_map s name ∷ bad_key (key_in s name key) ∷ no_mapping piece ∷ detached s (place_of_mapping piece) ∷ unresolved s (place_of_mapping piece)
+    no_map s name ∷ bad_key (key_in s name key) ∷ no_mapping piece ∷ detached s (location_of_mapping piece) ∷ unresolved s (location_of_mapping piece)
     ∷ locked token piece ∷ no_location s location ∷ not_a_shard s name location ∷ detached s (Some location) ∷ unresolved s (Some location)
     ∷ same_shard location piece ∷ not_offline piece ∷ rows_present s piece ∷ []
 checks s session (command.Split name key token) =
     let piece = mapping_of s name key in
-    no_map s name ∷ wrong_kind s name kind.Range ∷ bad_key (key_in s name key) ∷ no_mapping piece ∷ detached s (place_of_mapping piece) ∷ unresolved s (place_of_mapping piece)
+    no_map s name ∷ wrong_kind s name kind.Range ∷ bad_key (key_in s name key) ∷ no_mapping piece ∷ detached s (location_of_mapping piece) ∷ unresolved s (location_of_mapping piece)
     ∷ locked token piece ∷ bad_split (key_in s name key) piece ∷ []
 checks s session (command.Merge name key token) =
     let piece = mapping_of s name key in
-    no_map s name ∷ wrong_kind s name kind.Range ∷ bad_key (key_in s name key) ∷ no_mapping piece ∷ detached s (place_of_mapping piece) ∷ unresolved s (place_of_mapping piece)
+    no_map s name ∷ wrong_kind s name kind.Range ∷ bad_key (key_in s name key) ∷ no_mapping piece ∷ detached s (location_of_mapping piece) ∷ unresolved s (location_of_mapping piece)
     ∷ locked token piece ∷ not_mergeable s piece ∷ []
 checks s session (command.Lock name key token) =
     let piece = mapping_of s name key in
-    no_map s name ∷ bad_key (key_in s name key) ∷ no_mapping piece ∷ detached s (place_of_mapping piece) ∷ unresolved s (place_of_mapping piece) ∷ has_token piece ∷ []
+    no_map s name ∷ bad_key (key_in s name key) ∷ no_mapping piece ∷ detached s (location_of_mapping piece) ∷ unresolved s (location_of_mapping piece) ∷ has_token piece ∷ []
 checks s session (command.Unlock name key token) =
     let piece = mapping_of s name key in
-    no_map s name ∷ bad_key (key_in s name key) ∷ no_mapping piece ∷ detached s (place_of_mapping piece) ∷ unresolved s (place_of_mapping piece)
+    no_map s name ∷ bad_key (key_in s name key) ∷ no_mapping piece ∷ detached s (location_of_mapping piece) ∷ unresolved s (location_of_mapping piece)
     ∷ not_locked piece ∷ locked (Some token) piece ∷ []
 checks s session (command.Find name key) =
     no_map s name ∷ bad_key (key_in s name key) ∷ no_mapping (mapping_of s name key) ∷ []
@@ -400,7 +400,7 @@ checks s session (command.Shards name) =
 checks s session (command.Open number name key) =
     let piece = mapping_of s name key in
     number_in_use (connection_of s session number) ∷ no_map s name ∷ bad_key (key_in s name key) ∷ no_mapping piece
-    ∷ detached s (place_of_mapping piece) ∷ unresolved s (place_of_mapping piece) ∷ owner_offline piece ∷ []
+    ∷ detached s (location_of_mapping piece) ∷ unresolved s (location_of_mapping piece) ∷ owner_offline piece ∷ []
 checks s session (command.Close number) =
     no_connection (connection_of s session number) ∷ []
 checks s session (command.Put number table id bytes) =
@@ -431,7 +431,7 @@ checks s session (command.Clear location) =
 checks s session (command.Job name low high location batch) =
     let piece = mapping_of s name low in
     no_map s name ∷ wrong_kind s name kind.Range ∷ bad_key (range_in s name low high) ∷ bad_range (key_in s name low) (high_in s name high)
-    ∷ no_whole_mapping (range_in s name low high) piece ∷ detached s (place_of_mapping piece) ∷ unresolved s (place_of_mapping piece)
+    ∷ no_whole_mapping (range_in s name low high) piece ∷ detached s (location_of_mapping piece) ∷ unresolved s (location_of_mapping piece)
     ∷ has_token piece ∷ owner_offline piece
     ∷ no_location s location ∷ not_a_shard s name location ∷ detached s (Some location) ∷ unresolved s (Some location)
     ∷ same_shard location piece ∷ full_of_jobs s ∷ []

@@ -49,6 +49,7 @@ Owes Summary past rest = (written_of past ≡ []) × (rest ≡ [])
 -- the run so far, with this still to be written
 pub record Owing (since : ℕ) (start : Image) (mode : Mode) (past : Timeline) (connections : Connections) (rest : Text) : Type 0 where
   pub run : Running since start mode past connections
+  -- the rest of the lines
   pub owes : Owes mode past rest
 
 -- ---- inside `attach` and `clear`

@@ -270,9 +270,9 @@ mappings_of_map s name = filter (λ p. same name p.map) (map.values s.mappings)
 abbrev pub shards_of_map : PlainState → Text → List Text
 shards_of_map s name = filter_map (λ shard. if same name shard.0 then Some shard.1 else None) (set.items s.shards)
 
-abbrev pub shown_place : Option Piece → Reply
-shown_place None = reply.Ok
-shown_place (Some piece) = reply.At piece.location
+abbrev pub shown_location : Option Piece → Reply
+shown_location None = reply.Ok
+shown_location (Some piece) = reply.At piece.location
 
 abbrev pub shown_row : Option Text → Reply
 shown_row None = reply.Ok
@@ -311,7 +311,7 @@ accepted held_then s i (command.Unlock name key token) = (with_mapping s (with_t
 accepted held_then s i (command.Find name key) = (s, shown_mapping (shown_type s name) (mapping_of s name key))
 accepted held_then s i (command.List name) = (s, reply.Mappings (shown_type s name) (mappings_of_map s name))
 accepted held_then s i (command.Shards name) = (s, reply.Shards (shards_of_map s name))
-accepted held_then s i (command.Open number name key) = (with_connections s (with_connection s.connections i number (connection_to name (key_in s name key) (mapping_of s name key))), shown_place (mapping_of s name key))
+accepted held_then s i (command.Open number name key) = (with_connections s (with_connection s.connections i number (connection_to name (key_in s name key) (mapping_of s name key))), shown_location (mapping_of s name key))
 accepted held_then s i (command.Close number) = (with_connections s (with_connection s.connections i number None), reply.Ok)
 accepted held_then s i (command.Put number table id bytes) = (record s { rows = with_row s.rows (connection_of s i number) table id bytes }, reply.Ok)
 accepted held_then s i (command.Get number table id) = (s, shown_row (row_bytes s.rows (connection_of s i number) table id))

@@ -10,10 +10,10 @@ use Rattle.plain_model.specs.Lines.{numbered, whole_line}
 -- ---- four sorts of replies
 
 -- a refusal or `pending`
-abbrev pub is_refusal : Reply → Bool
-is_refusal (reply.Refused r) = true
-is_refusal (reply.Pending operation) = true
-is_refusal other = false
+abbrev pub counts_as_refused : Reply → Bool
+counts_as_refused (reply.Refused r) = true
+counts_as_refused (reply.Pending operation) = true
+counts_as_refused other = false
 
 abbrev pub is_fault : Reply → Bool
 is_fault reply.Fault = true
@@ -46,6 +46,6 @@ abbrev pub summary_lines : List Entry → Text
 summary_lines history = flat_map (whole_line None) (
     numbered (codes "commands") (answered_count history)
     ∷ numbered (codes "ok") (replies_of is_good history)
-    ∷ numbered (codes "refused") (replies_of is_refusal history)
+    ∷ numbered (codes "refused") (replies_of counts_as_refused history)
     ∷ numbered (codes "fault") (replies_of is_fault history)
     ∷ [])

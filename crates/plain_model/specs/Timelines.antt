@@ -50,10 +50,10 @@ written_of (Entered e ∷ past) = written_of past
 
 -- ---- the entries with their states
 
--- an entry, and the state before it
+-- an entry
 pub record Made : Type 0 where
   pub entry : Entry
-  pub before : PlainState
+  pub before : PlainState  -- the state before it; nobody reads its connections
 
 -- The latest comes first.
 abbrev pub Past : Type 0

@@ -1,6 +1,9 @@
 -- Which values of the words of a command a script can spell.
-use Rattle.std.specs.Prelude.{ℕ, ◌^◌, Bool, true, ◌&&◌, nat_le, length, Option, Some, None}
+use Rattle.std.specs.Prelude.{ℕ, ◌^◌, Bool, true, ◌&&◌, not, nat_le, length, codes, Option, Some, None}
+use Rattle.cell_world.specs.Keys.{same}
 use Rattle.cell_world.specs.declared.cells.Token.{Token}
+use Rattle.plain_model.specs.declared.commands.HighText.{HighText}
+use Rattle.plain_model.specs.declared.commands.HighText.TheVariants as word
 use Rattle.plain_model.specs.declared.commands.Command.{Command}
 use Rattle.plain_model.specs.declared.commands.Command.TheVariants as command
 
@@ -16,8 +19,14 @@ is_optional_token (Some token) = is_token_word token
 abbrev pub is_connection_word : ℕ → Bool
 is_connection_word number = nat_le 1 number && nat_le number 64
 
+-- `max` as an end is the unbounded one
+abbrev pub is_high_word : HighText → Bool
+is_high_word (word.At text) = not (same text (codes "max"))
+is_high_word word.Max = true
+
 -- Each word of the command is in its grammar. Names, locations and keys are so by their types.
 abbrev pub is_worded : Command → Bool
+is_worded (command.Add name low high location) = is_high_word high
 is_worded (command.Delete name key token) = is_optional_token token
 is_worded (command.Offline name key token) = is_optional_token token
 is_worded (command.Online name key token) = is_optional_token token
@@ -32,7 +41,7 @@ is_worded (command.Put number table id bytes) = is_connection_word number && nat
 is_worded (command.Get number table id) = is_connection_word number
 is_worded (command.Del number table id) = is_connection_word number
 is_worded (command.Resolve location name number side) = nat_le 1 number
-is_worded (command.Job name low high location batch) = nat_le 1 batch && nat_le batch 100000
+is_worded (command.Job name low high location batch) = is_high_word high && (nat_le 1 batch && nat_le batch 100000)
 is_worded (command.Step number) = nat_le 1 number
 is_worded (command.Run number) = nat_le 1 number
 is_worded other = true

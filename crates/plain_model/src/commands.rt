@@ -84,3 +84,11 @@ pub enum Command {
     /// Moves all batches of a job.
     Run(u32),
 }
+
+/// A line of a script: a command of a session.
+#[derive(Drop)]
+pub struct Asked {
+    /// From 1.
+    pub session: u32,
+    pub command: Command,
+}

@@ -24,25 +24,25 @@ pub enum Reason {
 /// How a run ended.
 #[derive(Clone, Copy, PartialEq, Eq)]
 pub enum RunStatus {
-    /// The script was run to its end, and no command was refused.
+    /// Status 0: the script was run to its end, and no command was refused.
     Done,
-    /// The script was run to its end, and some reply was a refusal or `pending`.
+    /// Status 1: the script was run to its end, and some reply was a refusal or `pending`.
     Refused,
-    /// The words of the command line are in no grammar from this place on, counted from 1. Nothing was done.
+    /// Status 2: the words of the command line are in no grammar from this place on, counted from 1. Nothing was done.
     BadWords(u32),
-    /// The first faulty line, counted from 1. Nothing was done.
+    /// Status 2: the first faulty line, counted from 1. Nothing was done.
     BadScript(u32, Reason),
-    /// The script couldn't be read. Nothing was done.
+    /// Status 3: the script couldn't be read. Nothing was done.
     ReadFault,
-    /// A reply couldn't be written. The run stopped there.
+    /// Status 4: a reply couldn't be written. The run stopped there.
     WriteFault,
-    /// The stores couldn't be opened, or some reply was `fault`.
+    /// Status 5: the stores couldn't be opened, or some reply was `fault`.
     StoreFault,
-    /// Want of memory.
+    /// Status 6: want of memory.
     Memory,
-    /// The script has more than 1,048,576 bytes. Nothing was done.
+    /// Status 7: the script has more than 1,048,576 bytes. Nothing was done.
     TooLong,
-    /// The stores name a location that the world doesn't know. Nothing was done.
+    /// Status 8: the stores name a location that the world doesn't know. Nothing was done.
     UnknownLocation(Location),
 }
 
