@@ -271,7 +271,7 @@ pub record Headline (mode : Mode) (causes : Causes) (script : List Asked) (befor
 -- from a state on, each entry follows from the state before it to its own, and the last state is this one
 abbrev pub FollowsTo : Past → PlainState → List Entry → PlainState → Type 0
 FollowsTo past A [] last = A ≡ last
-FollowsTo past A (e ∷ es) last = (B : PlainState) × Follows past A e B e.reply × FollowsTo (record { entry = e; before = A } ∷ past) B es last
+FollowsTo past A (e ∷ es) last = (B : PlainState) × Follows past A e B e.reply × FollowsTo (record { entry = e; before = with_connections A nobody } ∷ past) B es last
 
 pub record IsLegalByStates (stopped : Bool) (first last : Image) (script : List Asked) (history : List Entry) : Type 0 where
   -- the first state is what the stores stood for, without connections

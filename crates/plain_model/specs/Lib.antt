@@ -13,6 +13,7 @@ pub mod Near
 pub mod OnTrail
 pub mod Refusing
 pub mod Running
+pub mod RunningAlone
 pub mod Steps
 pub mod Summary
 pub mod Timelines

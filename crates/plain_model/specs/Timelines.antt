@@ -1,5 +1,5 @@
 -- What came in which order: happenings at the outside, and entries of the history.
-use Rattle.std.specs.Prelude.{ℕ, List, [], ◌∷◌, ◌++◌}
+use Rattle.std.specs.Prelude.{List, [], ◌∷◌, ◌++◌}
 use Rattle.cell_world.specs.Texts.{Text}
 use Rattle.cell_world.specs.Images.{Image, Happening, Committed, Wrote, Reopened, after_one}
 use Rattle.cell_world.specs.Plain.{PlainState}
@@ -53,7 +53,7 @@ written_of (Entered e ∷ past) = written_of past
 -- an entry
 pub record Made : Type 0 where
   pub entry : Entry
-  pub before : PlainState  -- the state before it; nobody reads its connections
+  pub before : PlainState  -- the state before it, but for connections
 
 -- The latest comes first.
 abbrev pub Past : Type 0

@@ -2,20 +2,23 @@
 ghost use Rattle.std.specs.Prelude.{◌≡◌, ◌↔◌, ◌≤◌, ◌+◌, ◌++◌, ◌∷◌, [], ℕ, Bool, List, length, Some, None, drop, take, slice_get};
 ghost use Rattle.cell_world.specs.Texts.{Text};
 ghost use Rattle.cell_world.specs.Images.{Image, Trail, Happening, Wrote, after_one, image_at, end_of_trail, extended};
-ghost use Rattle.cell_world.specs.Plain.{PlainState, Connections, nobody};
+ghost use Rattle.cell_world.specs.Plain.{PlainState, Connections, nobody, with_connections};
 ghost use Rattle.cell_world.specs.Meaning.{meaning};
 ghost use Rattle.cell_world.specs.Sound.{Sound};
 ghost use Rattle.plain_model.specs.declared.replies.Reply.{Reply};
 ghost use Rattle.plain_model.specs.declared.replies.Reply.TheVariants as reply;
 ghost use Rattle.plain_model.specs.declared.history.Entry.{Entry};
-ghost use Rattle.plain_model.specs.Timelines.{Timeline, Happened, Entered, image_of, happened_of, history_of, written_of};
+ghost use Rattle.plain_model.specs.Timelines.{Timeline, Happened, Entered, image_of, happened_of, history_of, written_of, Past, past_of};
 ghost use Rattle.plain_model.specs.Near.{Near};
+ghost use Rattle.plain_model.specs.Follows.{Follows};
 ghost use Rattle.plain_model.specs.OnTrail.{reach_of_command};
 ghost use Rattle.plain_model.specs.Legal.{Going, AllGoing, Promises, KeepsPromises, Legal, IsAtRest, MayHappen, MayEnter};
 ghost use Rattle.plain_model.specs.GoingOn.{GoesOn, TakesUp, NamesOperations};
 ghost use Rattle.plain_model.specs.Written.{Mode, EachReply, Summary, summary, all_lines, IsPrefixOf, WrittenSoFar, WasWritten, WrittenByMoments, AllWritten, last_moment};
 ghost use Rattle.plain_model.specs.ByMoments.{LegalByMoments, TrailByMoments, IsLeastInWayAt, RunsByMoments, from_moment, timeline_at, standing};
 ghost use Rattle.plain_model.specs.Running.{Running, Owing, Recovering, bytes_of, text_of};
+ghost use Rattle.plain_model.specs.RunningAlone.{RunningAlone, entries_of};
+ghost use Rattle.plain_model.specs.Headline.{FollowsTo};
 
 // ---- how the run so far goes on
 
@@ -148,4 +151,25 @@ pub fn pending_names_the_least()
 pub fn promises_are_kept()
     ensures entered { (before after : AllGoing) (e : Entry) (history : List Entry) → GoesOn before after e → KeepsPromises before history → Promises after e [] e.reply → KeepsPromises after (history ++ e ∷ []) }
     ensures taken_up { (before after : AllGoing) (session : ℕ) (g : Going) (history : List Entry) → TakesUp before after session g → NamesOperations history → KeepsPromises before history → KeepsPromises after history }
+{}
+
+// ---- over a world that tells its contents alone
+
+/// There too the run begins, goes on while the stores stand for the same, and with an entry that follows; and its entries follow one after the other.
+pub fn run_alone()
+    ensures begins { (first : Image) → Sound first → RunningAlone first [] nobody first }
+    ensures goes_on { (first : Image) (past : Past) (connections : Connections) (old new : Image) → RunningAlone first past connections old → Sound new → meaning new ≡ meaning old →
+        RunningAlone first past connections new }
+    ensures enters { (first : Image) (past : Past) (before after : Connections) (old new : Image) (e : Entry) → RunningAlone first past before old → Sound new →
+        Follows past (with_connections (meaning old) before) e (with_connections (meaning new) after) e.reply →
+        RunningAlone first (record { entry = e; before = meaning old } ∷ past) after new }
+    ensures follows { (first : Image) (past : Past) (connections : Connections) (image : Image) → RunningAlone first past connections image →
+        FollowsTo [] (meaning first) (entries_of past) (with_connections (meaning image) connections) }
+{}
+
+/// What is a run on a trail is one by its contents alone.
+pub fn run_alone_on_a_trail()
+    ensures run { (since : ℕ) (start : Image) (mode : Mode) (past : Timeline) (connections : Connections) → Running since start mode past connections →
+        RunningAlone start (past_of start past) connections (image_of start past) }
+    ensures entries { (start : Image) (past : Timeline) → entries_of (past_of start past) ≡ history_of past }
 {}
