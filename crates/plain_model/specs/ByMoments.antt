@@ -1,11 +1,10 @@
 -- The legal history, stated by the moments of a trail. Entries are counted from 1, and t0 counts as the moment of entry 0.
-use Rattle.std.specs.Prelude.{◌≡◌, ◌⊎◌, ℕ, ◌+◌, ◌<◌, ◌≤◌, Bool, true, false, ◌||◌, List, [], ◌∷◌, length, take, drop, slice_get, Some, None, if◌then◌else◌, IsTrue, ◌==◌}
+use Rattle.std.specs.Prelude.{◌≡◌, ℕ, ◌+◌, ◌<◌, ◌≤◌, Bool, true, List, [], ◌∷◌, length, take, drop, slice_get, Some, None, IsTrue}
 use Rattle.std.specs.FinMap as map
 use Rattle.cell_world.specs.Texts.{Text}
-use Rattle.cell_world.specs.Lists.{SomeOf}
 use Rattle.cell_world.specs.Keys.{same}
 use Rattle.cell_world.specs.Stores.{Store}
-use Rattle.cell_world.specs.Images.{Image, Trail, Happening, Place, Committed, Reopened, Global, Shard, image_at, end_of_trail, stretch, global}
+use Rattle.cell_world.specs.Images.{Trail, Happening, Committed, Reopened, Global, Shard, image_at, end_of_trail, stretch, global}
 use Rattle.cell_world.specs.Plain.{PlainState, Connections, nobody, with_connections}
 use Rattle.cell_world.specs.Meaning.{meaning, next_operation}
 use Rattle.cell_world.specs.Operations.{conflicts}
@@ -20,7 +19,7 @@ use Rattle.plain_model.specs.Near.{Near}
 use Rattle.plain_model.specs.JobSteps.{asked_job}
 use Rattle.plain_model.specs.Follows.{Follows}
 use Rattle.plain_model.specs.OnTrail.{OnTrail, logs_put, logs}
-use Rattle.plain_model.specs.Legal.{IsPlanned, IsPlannedIn, MayHappen, IsDetachedIn, KeepsCounter, AllGoing, KeepsPromises}
+use Rattle.plain_model.specs.Legal.{IsPlanned, MayHappen, IsDetachedIn, KeepsCounter, AllGoing, KeepsPromises}
 use Rattle.plain_model.specs.Written.{Mode, WrittenByMoments, last_moment, by_moment}
 
 -- ---- moments

@@ -1,9 +1,9 @@
 -- Steps of jobs as the plain state sees them.
-use Rattle.std.specs.Prelude.{◌≡◌, ◌⊎◌, ℕ, ◌+◌, Bool, true, false, ◌&&◌, not, ◌==◌, List, [], ◌∷◌, Option, Some, None, option_and_then, if◌then◌else◌, IsTrue, is_some, is_none}
+use Rattle.std.specs.Prelude.{◌≡◌, ℕ, ◌+◌, Bool, true, false, ◌&&◌, not, ◌==◌, List, [], ◌∷◌, Option, Some, None, option_and_then, if◌then◌else◌, IsTrue, is_some}
 use Rattle.std.specs.FinMap as map
 use Rattle.cell_world.specs.Texts.{Text}
 use Rattle.cell_world.specs.Plain.{PlainState, owner}
-use Rattle.cell_world.specs.Jobs.{Step, TableRow, Always, UpTo, Replace, Finish, Stuck, table_row, IsBatchEnd, Gives, merge_due}
+use Rattle.cell_world.specs.Jobs.{Step, TableRow, Always, Replace, Finish, Stuck, table_row, IsBatchEnd, Gives, merge_due}
 use Rattle.cell_world.specs.declared.operations.Piece.{Piece}
 use Rattle.cell_world.specs.declared.operations.JobRow.{JobRow}
 use Rattle.cell_world.specs.declared.operations.Extra.{Extra}
@@ -11,8 +11,7 @@ use Rattle.cell_world.specs.declared.operations.Extra.TheVariants as extra
 use Rattle.cell_world.specs.declared.operations.Phase.{Phase}
 use Rattle.cell_world.specs.declared.operations.Phase.TheVariants as phase
 use Rattle.cell_world.specs.declared.cells.Token.{Token}
-use Rattle.cell_world.specs.declared.cells.Status.{Status}
-use Rattle.cell_world.specs.declared.cells.Status.TheVariants.{Offline, Online}
+use Rattle.cell_world.specs.declared.cells.Status.TheVariants.{Offline}
 use Rattle.plain_model.specs.declared.commands.Command.{Command}
 use Rattle.plain_model.specs.declared.commands.Command.TheVariants as command
 use Rattle.plain_model.specs.Timelines.{Past}
