@@ -222,22 +222,21 @@ ends_by_opening (status.BadScript line reason) = true
 ends_by_opening status.StoreFault = true
 ends_by_opening other = ends_by_reading other
 
--- A status comes exactly where its cause is, unless one comes that is looked for before it, or memory is short.
-pub record ComesExactly (causes : Causes) (old : Outside) (ending : RunStatus) : Type 0 where
+-- A status comes exactly where its cause is, unless one comes that is looked for before it, or memory is short: first the words and the input.
+pub record ComesByInput (causes : Causes) (ending : RunStatus) : Type 0 where
   -- first the words are looked at
   pub words : (place : ℕ) → causes.bad_words place → (ending ≡ status.BadWords place) ⊎ (ending ≡ status.Memory)
   -- then the source is read
   pub reading : causes.too_long → ends_by_reading ending ≡ true
   -- then the script
   pub script : (line : ℕ) (reason : Reason) → causes.bad_script line reason → (ending ≡ status.BadScript line reason) ⊎ (ends_by_reading ending ≡ true)
-  -- then the stores are opened
-  pub opening : (location : Text) → TellsUnknown old location → (ending ≡ status.UnknownLocation location) ⊎ (ends_by_opening ending ≡ true)
 
-pub record StatusHasCause (causes : Causes) (old new : Outside) (history : List Entry) (ending : RunStatus) : Type 0 where
-  -- the status says what is so
-  pub cause : StatusCause causes old new history ending
-  -- and comes where it is so
-  pub exactly : ComesExactly causes old ending
+-- Then the stores are opened.
+abbrev pub ComesByOpening : Outside → RunStatus → Type 0
+ComesByOpening old ending = (location : Text) → TellsUnknown old location → (ending ≡ status.UnknownLocation location) ⊎ (ends_by_opening ending ≡ true)
+
+-- What a status says besides its cause.
+pub record KeepsToStatus (old new : Outside) (history : List Entry) (ending : RunStatus) : Type 0 where
   -- at most as many `fault` entries as the store count rose
   pub few_faults : StoreRoseBy (faults history) old new
   -- at most one `memory` entry, and none after it
@@ -245,6 +244,14 @@ pub record StatusHasCause (causes : Causes) (old new : Outside) (history : List 
   -- for the statuses 2, 3, 7 and 8 the history is empty, and nothing was done
   pub nothing : did_nothing ending ≡ true → history ≡ []
   pub unchanged : did_nothing ending ≡ true → new.told ≡ old.told
+
+pub record StatusHasCause (causes : Causes) (old new : Outside) (history : List Entry) (ending : RunStatus) : Type 0 where
+  -- the status says what is so
+  pub cause : StatusCause causes old new history ending
+  -- and comes where it is so
+  pub by_input : ComesByInput causes ending
+  pub by_opening : ComesByOpening old ending
+  pub kept : KeepsToStatus old new history ending
 
 -- ---- all five, over a world that tells its trail
 
