@@ -1,15 +1,16 @@
 -- Small values for the examples: one map with integer keys, two sites, and tables with a few entries.
-use Rattle.std.specs.Prelude.{ℕ, ◌+◌, List, [], ◌∷◌, Option, Some, None, map}
+use Rattle.std.specs.Prelude.{ℕ, ◌+◌, List, [], ◌∷◌, Some, None, map, if◌then◌else◌}
 use Rattle.std.specs.FinMap.{from_sorted}
 use Rattle.std.specs.FinSet.{from_list}
 use Rattle.cell_world.specs.Texts.{Text}
-use Rattle.cell_world.specs.Plain.{Owner, owner_in}
-use Rattle.cell_world.specs.Jobs.{TableRow, table_row, batch_end}
+use Rattle.cell_world.specs.Keys.{same}
+use Rattle.cell_world.specs.Plain.{Owner, owner_in, PlainState, holds_nothing, nobody}
+use Rattle.cell_world.specs.Lawful.{ReadTables}
+use Rattle.cell_world.specs.Jobs.{TableRow, table_row}
 use Rattle.cell_world.specs.Stores.{Maps, Shards, Tables, Mappings, Log, Jobs, AwaySites, Locals, Rows, piece_key, local_key}
-use Rattle.cell_world.specs.declared.spans.High.{High}
-use Rattle.cell_world.specs.declared.spans.High.TheVariants.{At, Max}
+use Rattle.cell_world.specs.declared.spans.High.TheVariants.{At}
 use Rattle.cell_world.specs.declared.spans.Span.{Span}
-use Rattle.cell_world.specs.declared.spans.Span.TheVariants.{Range}
+use Rattle.cell_world.specs.declared.spans.Span.TheVariants.{Range, Point}
 use Rattle.cell_world.specs.declared.cells.KeyType.{KeyType}
 use Rattle.cell_world.specs.declared.cells.KeyType.TheVariants.{Int}
 use Rattle.cell_world.specs.declared.cells.MapKind.{MapKind}
@@ -24,7 +25,7 @@ use Rattle.cell_world.specs.declared.operations.Piece.{Piece}
 use Rattle.cell_world.specs.declared.operations.Pieces.{Pieces}
 use Rattle.cell_world.specs.declared.operations.JobRow.{JobRow}
 use Rattle.cell_world.specs.declared.operations.Phase.{Phase}
-use Rattle.cell_world.specs.declared.operations.Phase.TheVariants.{Idle, Copying, Moved}
+use Rattle.cell_world.specs.declared.operations.Phase.TheVariants.{Idle, Copying}
 use Rattle.cell_world.specs.declared.operations.Extra.{Extra}
 use Rattle.cell_world.specs.declared.operations.Extra.TheVariants as extra
 use Rattle.cell_world.specs.declared.operations.Op.{Op}
@@ -51,6 +52,10 @@ site_a = 115 ∷ 47 ∷ 97 ∷ []
 abbrev pub site_b : Text
 site_b = 115 ∷ 47 ∷ 98 ∷ []
 
+-- those of the world
+abbrev pub sites_ab : List Text
+sites_ab = site_a ∷ site_b ∷ []
+
 -- ---- keys and spans
 
 -- the normal form of a small number
@@ -69,6 +74,10 @@ free_piece low high location status = record { map = map_m; span = range low hig
 -- a mapping of another map, online at `s/a`
 abbrev pub piece_of : Text → ℕ → ℕ → Piece
 piece_of name low high = record (free_piece low high site_a Online) { map = name }
+
+-- a mapping of one key, as a list map has it
+abbrev pub point_piece : ℕ → Text → Status → Piece
+point_piece key location status = record { map = map_m; span = Point (int_key key); location = location; status = status; token = None }
 
 -- a mapping with the token of job 1
 abbrev pub job_piece : ℕ → ℕ → Text → Status → Piece
@@ -108,9 +117,21 @@ second_alone p = record { one = None; two = Some p }
 abbrev pub op_on : ℕ → Span → Pieces → Pieces → Extra → Op
 op_on number hull olds news extra = record { number = number; map = map_m; hull = hull; olds = olds; news = news; extra = extra }
 
--- an add: [0, 10) at `s/a`
+-- operation 1 adds a mapping
+abbrev pub add_of : Piece → Op
+add_of new = op_on 1 new.span no_pieces (one_piece new) extra.None
+
+-- it deletes one
+abbrev pub delete_of : Piece → Op
+delete_of old = op_on 1 old.span (one_piece old) no_pieces extra.None
+
+-- it puts one for another of the same span
+abbrev pub change_of : Piece → Piece → Op
+change_of old new = op_on 1 old.span (one_piece old) (one_piece new) extra.None
+
+-- it adds [0, 10) at `s/a`
 abbrev pub add_at_a : Op
-add_at_a = op_on 1 (range 0 10) no_pieces (one_piece (free_piece 0 10 site_a Online)) extra.None
+add_at_a = add_of (free_piece 0 10 site_a Online)
 
 -- the offline of a job: its batch is [0, 10) at `s/a`, to be copied to `s/b`
 abbrev pub offline_for_b : Op
@@ -136,8 +157,11 @@ mappings_of pieces = from_sorted (keyed_pieces pieces)
 abbrev pub log_of : List Op → Log
 log_of ops = from_sorted (map (λ op. (op.number, op)) ops)
 
+abbrev pub keyed_jobs : List JobRow → List (ℕ × JobRow)
+keyed_jobs jobs = map (λ job. (job.number, job)) jobs
+
 abbrev pub jobs_of : List JobRow → Jobs
-jobs_of jobs = from_sorted (map (λ job. (job.number, job)) jobs)
+jobs_of jobs = from_sorted (keyed_jobs jobs)
 
 abbrev pub away_of : List (Text × Away) → AwaySites
 away_of entries = from_sorted entries
@@ -155,9 +179,19 @@ entries_m = (map_m, (kind.Range, Int)) ∷ []
 abbrev pub maps_m : Maps
 maps_m = maps_of entries_m
 
+-- where `m` is a list map
+abbrev pub list_entries_m : List (Text × (MapKind × KeyType))
+list_entries_m = (map_m, (kind.List, Int)) ∷ []
+
+abbrev pub list_maps_m : Maps
+list_maps_m = maps_of list_entries_m
+
 -- its shards are `s/a` and `s/b`
+abbrev pub pairs_ab : List (Text × Text)
+pairs_ab = (map_m, site_a) ∷ (map_m, site_b) ∷ []
+
 abbrev pub shards_ab : Shards
-shards_ab = shards_of ((map_m, site_a) ∷ (map_m, site_b) ∷ [])
+shards_ab = shards_of pairs_ab
 
 -- its table is `t`
 abbrev pub tables_t : Tables
@@ -179,3 +213,37 @@ rows_under_keys keys = rows_of (numbered_rows 1 keys)
 -- the row of the job's table where these mappings of `m` stand
 abbrev pub row_with : List Piece → JobRow → TableRow
 row_with pieces job = table_row (owner_with pieces) (mappings_of pieces) job
+
+-- a plain state with these mappings of `m`, and rows of `t` with these keys; both sites are attached, and no job stands
+abbrev pub state_with : List Piece → List ℕ → PlainState
+state_with pieces keys = record {
+  locations = sites_ab;
+  maps = maps_m;
+  shards = shards_ab;
+  tables = tables_t;
+  mappings = mappings_of pieces;
+  jobs = jobs_of [];
+  next_job = 2;
+  away = away_of [];
+  rows = rows_under_keys keys;
+  held = λ location. holds_nothing;
+  connections = nobody;
+}
+
+-- ---- what is read where an operation is judged
+
+-- by location: the first keys are those of the rows at `s/a`, the second those at `s/b`
+abbrev pub keys_at : List ℕ → List ℕ → Text → List ℕ
+keys_at at_a at_b location = if same location site_a then at_a else if same location site_b then at_b else []
+
+-- both sites are known and attached, `m` has them as shards, and these mappings, jobs and rows stand
+abbrev pub reading : List Piece → List JobRow → List ℕ → List ℕ → ReadTables
+reading pieces jobs at_a at_b = record {
+  locations = sites_ab;
+  maps = maps_m;
+  shards = shards_ab;
+  mappings = mappings_of pieces;
+  jobs = jobs_of jobs;
+  away = away_of [];
+  rows_at = λ location. rows_under_keys (keys_at at_a at_b location);
+}

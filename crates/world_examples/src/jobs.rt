@@ -1,11 +1,11 @@
 //! Examples of the table of a job, and of where its batches end.
 ghost use Rattle.std.specs.Prelude.{◌≡◌, [], ◌∷◌};
-ghost use Rattle.cell_world.specs.Jobs.{Always, Replace, Finish, Stuck, with_end, next_above, end_of_batch, keys_between, batch_end};
+ghost use Rattle.cell_world.specs.Jobs.{Always, Replace, Finish, Stuck, with_end, next_above, end_of_batch, keys_between, batch_end, job_step};
 ghost use Rattle.cell_world.specs.declared.cells.Status.TheVariants.{Online, Offline};
 ghost use Rattle.cell_world.specs.declared.operations.Phase.TheVariants.{Idle, Copying, Moved};
 ghost use Rattle.cell_world.specs.declared.operations.Extra.TheVariants.{None, JobPut};
 ghost use Rattle.cell_world.specs.declared.spans.High.TheVariants.{At, Max};
-ghost use Rattle.world_examples.specs.Examples.{int_key, map_m, map_n, site_a, site_b, job_piece, job_at, job_from, rows_under_keys, owner_with, row_with};
+ghost use Rattle.world_examples.specs.Examples.{int_key, map_m, map_n, site_a, site_b, job_piece, job_at, job_from, rows_under_keys, owner_with, row_with, state_with};
 
 // ---- where a batch ends
 
@@ -73,4 +73,14 @@ pub fn steps_of_a_batch()
     ensures online { row_with (job_piece 0 3 site_b Offline ∷ job_piece 3 10 site_a Online ∷ []) (job_at 0 (Moved (At (int_key 3))))
         ≡ Always (Replace (job_piece 0 3 site_b Offline ∷ []) (job_piece 0 3 site_b Online ∷ []) (JobPut (job_at 3 Idle))) }
     ensures nobody { row_with [] (job_at 0 (Copying (At (int_key 3)))) ≡ Always Stuck }
+{}
+
+/// The table and the batch end together: the step of job 1 on a plain state, by its rows.
+pub fn steps_on_a_state()
+    ensures split { job_step (state_with (job_piece 0 10 site_a Online ∷ []) (1 ∷ 2 ∷ 3 ∷ [])) (job_at 0 Idle)
+        ≡ Replace (job_piece 0 10 site_a Online ∷ []) (job_piece 0 3 site_a Online ∷ job_piece 3 10 site_a Online ∷ []) None }
+    ensures offline { job_step (state_with (job_piece 0 3 site_a Online ∷ job_piece 3 10 site_a Online ∷ []) (1 ∷ 2 ∷ 3 ∷ [])) (job_at 0 Idle)
+        ≡ Replace (job_piece 0 3 site_a Online ∷ []) (job_piece 0 3 site_a Offline ∷ []) (JobPut (job_at 0 (Copying (At (int_key 3))))) }
+    ensures last_batch { job_step (state_with (job_piece 0 3 site_b Online ∷ job_piece 3 10 site_a Online ∷ []) (1 ∷ 2 ∷ 3 ∷ [])) (job_at 3 Idle)
+        ≡ Replace (job_piece 3 10 site_a Online ∷ []) (job_piece 3 10 site_a Offline ∷ []) (JobPut (job_at 3 (Copying (At (int_key 10))))) }
 {}

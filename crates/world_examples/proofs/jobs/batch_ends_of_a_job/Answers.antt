@@ -1,7 +1,7 @@
-use Rattle.std.proofs.Common.{refl, [], ◌∷◌}
+use Rattle.std.proofs.Common.{[], ◌∷◌}
 use Rattle.cell_world.specs.ByteOrder.{byte_cmp}
 use Rattle.cell_world.specs.Orders.{pair_cmp, row_cmp}
-use Rattle.cell_world.specs.declared.cells.Status.TheVariants.{Online, Offline}
+use Rattle.cell_world.specs.declared.cells.Status.TheVariants.{Online}
 use Rattle.world_examples.specs.Examples.{map_m, site_a, site_b, job_piece, entries_m, keyed_pieces, numbered_rows}
 use Rattle.world_examples.proofs.Tables.{get_of, entries_of}
 use Rattle.world_examples.proofs.jobs.batch_ends_of_a_job.Goals as goal
