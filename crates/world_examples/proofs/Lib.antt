@@ -1,3 +1,6 @@
 pub mod Accepting
 pub mod Refusing
+pub mod AtRest
+pub mod ImageParts
+pub mod Standing
 pub mod Tables

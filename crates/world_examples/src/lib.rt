@@ -3,4 +3,5 @@
 
 pub mod jobs;
 pub mod lawful;
+pub mod sound;
 pub mod spans;

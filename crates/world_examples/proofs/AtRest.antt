@@ -1,0 +1,164 @@
+-- The image at rest is sound, and so it is with a suspect site.
+use Rattle.std.proofs.Common.{◌≡◌, ℕ, ◌<◌, ◌^◌, true≢false, refl, sym, ap, ◌∙◌, subst, Some, None, List, [], ◌∷◌, is_some, arith, inl, inr, cond}
+use Rattle.std.specs.Prelude.{IsTrue, IfSome}
+use Rattle.std.specs.FinMap as fin
+use Rattle.std.specs.Ordering.{nat_cmp}
+use Rattle.std.proofs.lemmas.Map.Lookups.{exact_unsigned}
+use Rattle.cell_world.specs.Texts.{Text}
+use Rattle.cell_world.specs.ByteOrder.{byte_cmp}
+use Rattle.cell_world.specs.Orders.{pair_cmp, local_cmp, row_cmp}
+use Rattle.cell_world.specs.Keys.{contains, overlaps, low_of}
+use Rattle.cell_world.specs.KeyForms.{is_normal}
+use Rattle.cell_world.specs.Stores.{AwaySites, Store, piece_key, local_key}
+use Rattle.cell_world.specs.Images.{Shard, global}
+use Rattle.cell_world.specs.Meaning.{counts}
+use Rattle.cell_world.specs.Plain.{is_attached, owner_in}
+use Rattle.cell_world.specs.Lawful.{IsAttached}
+use Rattle.cell_world.specs.Sound.{Sound, JobTokens, GlobalCells, LocalCells, OnlineRows, RowCells, SuspectSite, HasPiece, HasLocal, HasLog, HasJob, HasTable, HasShard, IsSpanOf, IsKeyOf, IsOwnedBy, IsComing, IsBeingMoved, IsMarked, Matches, mark_below}
+use Rattle.cell_world.specs.declared.cells.Away.{Away}
+use Rattle.cell_world.specs.declared.cells.Away.TheVariants.{Suspect}
+use Rattle.cell_world.specs.declared.cells.KeyType.TheVariants.{Int}
+use Rattle.cell_world.specs.declared.cells.LocalRow.{LocalRow}
+use Rattle.cell_world.specs.declared.cells.MapKind.TheVariants as kind
+use Rattle.cell_world.specs.declared.cells.Mark.TheVariants.{Plain}
+use Rattle.cell_world.specs.declared.cells.RowName.{RowName}
+use Rattle.cell_world.specs.declared.cells.Status.TheVariants.{Online, Offline}
+use Rattle.cell_world.specs.declared.operations.JobRow.{JobRow}
+use Rattle.cell_world.specs.declared.operations.Op.{Op}
+use Rattle.cell_world.specs.declared.operations.Piece.{Piece}
+use Rattle.cell_world.proofs.OrderLaws.{exact_text_pairs, exact_texts, exact_locals}
+use Rattle.world_examples.specs.Examples.{int_key, map_m, site_a, site_b, free_piece, local_row, maps_m, shards_ab, tables_t, keyed_pieces, mappings_of, log_of, jobs_of, locals_of, rows_of, away_of, owner_with}
+use Rattle.world_examples.specs.Sounds.{sites_known, rows_with, pieces_at_rest, global_at_rest, a_at_rest, b_at_rest, b_to_compare, image_at_rest, image_to_compare}
+use Rattle.world_examples.proofs.Tables.{get_of}
+use Rattle.world_examples.proofs.Standing.{standing, two_standing, each_site, AllTwo, OneAtAKey, m_stands, owner_there}
+use Rattle.world_examples.proofs.ImageParts.{local_cells, online_rows, row_cells, b_not_a, offline_not_online, normal_of_m, keyed_locals, global_keyed, shard_keyed, image_keyed, global_cells, a_is_shard, b_is_shard, t_is_table}
+
+abbrev low : Piece
+low = free_piece 0 5 site_a Online
+
+abbrev high : Piece
+high = free_piece 5 10 site_b Offline
+
+low_stands : HasPiece (mappings_of pieces_at_rest) low
+low_stands = get_of pair_cmp (keyed_pieces pieces_at_rest) tt (piece_key low)
+
+high_stands : HasPiece (mappings_of pieces_at_rest) high
+high_stands = get_of pair_cmp (keyed_pieces pieces_at_rest) tt (piece_key high)
+
+apart : AllTwo (λ d e. OneAtAKey d.1 e.1) (keyed_pieces pieces_at_rest)
+apart = (((λ e f. refl), ((λ e f. absurd (true≢false (sym f))), tt)), (((λ e f. absurd (true≢false (sym f))), ((λ e f. refl), tt)), tt))
+
+globals : (away : AwaySites) → GlobalCells (record global_at_rest { away = away })
+globals away = global_cells pieces_at_rest [] [] None away tt (omega arith, omega arith) (omega arith)
+    ((kind.Range, Int, m_stands, refl), ((kind.Range, Int, m_stands, refl), tt))
+    (a_is_shard, (b_is_shard, tt))
+    apart
+
+-- no operation is logged
+nothing_logged : (op : Op) → HasLog (log_of []) op → ⊥
+nothing_logged op = standing exact_unsigned (λ k x. ⊥) [] tt tt op.number op
+
+no_job : (job : JobRow) → HasJob (jobs_of []) job → ⊥
+no_job job = standing exact_unsigned (λ k x. ⊥) [] tt tt job.number job
+
+low_owned : (key : Text) → IsTrue (is_normal Int key) → IsTrue (contains low.span key) → IsOwnedBy (owner_with pieces_at_rest) map_m key site_a
+low_owned key normal h = (low, owner_there pieces_at_rest tt apart low refl refl key normal h, refl)
+
+high_owned : (key : Text) → IsTrue (is_normal Int key) → IsTrue (contains high.span key) → IsOwnedBy (owner_with pieces_at_rest) map_m key site_b
+high_owned key normal h = (high, owner_there pieces_at_rest tt apart high refl refl key normal h, refl)
+
+a_locals : LocalCells (mappings_of pieces_at_rest) (log_of []) 1 site_a a_at_rest.locals
+a_locals = local_cells pieces_at_rest [] site_a (local_row 0 5 0 Online Plain ∷ []) tt tt 1
+    ((λ c. (low, low_stands, refl, record { map = refl; span = refl; status = refl })), tt)
+    ((λ c. (local_row 0 5 0 Online Plain, get_of local_cmp (keyed_locals (local_row 0 5 0 Online Plain ∷ [])) tt (local_key (local_row 0 5 0 Online Plain)), refl, record { map = refl; span = refl; status = refl })),
+      ((λ c. absurd (b_not_a c)), tt))
+    (((λ c d e f. refl), tt), tt)
+    (tt, tt)
+    ((omega arith, refl), tt)
+
+b_locals : LocalCells (mappings_of pieces_at_rest) (log_of []) 1 site_b b_at_rest.locals
+b_locals = local_cells pieces_at_rest [] site_b (local_row 5 10 0 Offline Plain ∷ []) tt tt 1
+    ((λ c. (high, high_stands, refl, record { map = refl; span = refl; status = refl })), tt)
+    ((λ c. absurd (b_not_a (sym c))),
+      ((λ c. (local_row 5 10 0 Offline Plain, get_of local_cmp (keyed_locals (local_row 5 10 0 Offline Plain ∷ [])) tt (local_key (local_row 5 10 0 Offline Plain)), refl, record { map = refl; span = refl; status = refl })), tt))
+    (((λ c d e f. refl), tt), tt)
+    (tt, tt)
+    ((omega arith, refl), tt)
+
+a_online : OnlineRows maps_m (owner_with pieces_at_rest) (log_of []) site_a a_at_rest.locals
+a_online = online_rows pieces_at_rest [] site_a (local_row 0 5 0 Online Plain ∷ []) tt tt
+    ((λ e. (kind.Range, Int, m_stands, refl)), tt)
+    ((λ e key h of_type. inl (low_owned key (normal_of_m key of_type) h)), tt)
+
+b_online : OnlineRows maps_m (owner_with pieces_at_rest) (log_of []) site_b b_at_rest.locals
+b_online = online_rows pieces_at_rest [] site_b (local_row 5 10 0 Offline Plain ∷ []) tt tt
+    ((λ e. absurd (offline_not_online e)), tt)
+    ((λ e. absurd (offline_not_online e)), tt)
+
+a_rows : RowCells maps_m tables_t (owner_with pieces_at_rest) (jobs_of []) site_a a_at_rest.rows
+a_rows = row_cells pieces_at_rest [] site_a (1 ∷ 2 ∷ []) tt
+    (t_is_table, (t_is_table, tt))
+    (inl (low_owned (int_key 1) refl refl), (inl (low_owned (int_key 2) refl refl), tt))
+
+b_rows : RowCells maps_m tables_t (owner_with pieces_at_rest) (jobs_of []) site_b b_at_rest.rows
+b_rows = row_cells pieces_at_rest [] site_b (7 ∷ []) tt (t_is_table, tt) (inl (high_owned (int_key 7) refl refl), tt)
+
+no_tokens : JobTokens (mappings_of pieces_at_rest) (jobs_of [])
+no_tokens p = standing exact_text_pairs (λ k q. IfSome q.token (λ token. token.0 < 2 ^ 64 → (job : JobRow) × HasJob (jobs_of []) job × (job.number ≡ token.0) × (job.map ≡ q.map))) (keyed_pieces pieces_at_rest) tt (tt, (tt, tt)) (piece_key p) p
+
+pub rest_sound : Sound image_at_rest
+rest_sound = record {
+  keyed = image_keyed global_at_rest a_at_rest b_at_rest (global_keyed pieces_at_rest [] [] None (away_of []) tt tt tt)
+      (shard_keyed (local_row 0 5 0 Online Plain ∷ []) (1 ∷ 2 ∷ []) tt) (shard_keyed (local_row 5 10 0 Offline Plain ∷ []) (7 ∷ []) tt);
+  globals = globals (away_of []);
+  logged = record { lawful = λ op h. absurd (nothing_logged op h); numbered = λ op h. absurd (nothing_logged op h); hulls = λ a b h g e f. absurd (nothing_logged a h) };
+  locals = λ location h. each_site (λ l. LocalCells (mappings_of pieces_at_rest) (log_of []) 1 l (image_at_rest.at (Shard l)).locals) sites_known (a_locals, (b_locals, tt)) location h.known;
+  online = λ location h. each_site (λ l. OnlineRows maps_m (owner_with pieces_at_rest) (log_of []) l (image_at_rest.at (Shard l)).locals) sites_known (a_online, (b_online, tt)) location h.known;
+  rows = λ location h. each_site (λ l. RowCells maps_m tables_t (owner_with pieces_at_rest) (jobs_of []) l (image_at_rest.at (Shard l)).rows) sites_known (a_rows, (b_rows, tt)) location h.known;
+  batches = λ job h. absurd (no_job job h);
+  suspect = λ location h. absurd (standing exact_texts (λ k x. ⊥) [] tt tt location Suspect h.1);
+  jobs = λ job h. absurd (no_job job h);
+  progress = λ job h. absurd (no_job job h);
+  tokens = no_tokens;
+}
+
+-- ---- with a suspect site
+
+abbrev b_away : AwaySites
+b_away = away_of ((site_b, Suspect) ∷ [])
+
+abbrev global_to_compare : Store
+global_to_compare = record global_at_rest { away = b_away }
+
+b_not_attached : IsAttached sites_known b_away site_b → ⊥
+b_not_attached h = true≢false (sym h.attached ∙ ap is_attached (get_of byte_cmp ((site_b, Suspect) ∷ []) tt site_b))
+
+a_not_suspect : fin.get b_away site_a ≡ Some Suspect → ⊥
+a_not_suspect h = let none = get_of byte_cmp ((site_b, Suspect) ∷ []) tt site_a in cc
+
+abbrev rows : List ((Text × (Text × ℕ)) × LocalRow)
+rows = keyed_locals (local_row 20 30 0 Online Plain ∷ [])
+
+b_suspect : SuspectSite maps_m shards_ab site_b b_to_compare.locals
+b_suspect = record {
+  plain = λ row. standing exact_locals (λ k r. (r.mark ≡ Plain) × (r.number ≡ 0)) rows tt ((refl, refl), tt) (local_key row) row;
+  on_shards = λ row. standing exact_locals (λ k r. HasShard shards_ab r.map site_b) rows tt (b_is_shard, tt) (local_key row) row;
+  spans = λ row. standing exact_locals (λ k r. IsSpanOf maps_m r.map r.span) rows tt ((kind.Range, Int, m_stands, refl), tt) (local_key row) row;
+  disjoint = λ a b. two_standing exact_locals (λ a b. a.map ≡ b.map → IsTrue (overlaps a.span b.span) → a ≡ b) rows tt (((λ e f. refl), tt), tt) (local_key a) (local_key b) a b;
+}
+
+pub compare_sound : Sound image_to_compare
+compare_sound = record {
+  keyed = image_keyed global_to_compare a_at_rest b_to_compare (global_keyed pieces_at_rest [] [] None b_away tt tt tt)
+      (shard_keyed (local_row 0 5 0 Online Plain ∷ []) (1 ∷ 2 ∷ []) tt) (shard_keyed (local_row 20 30 0 Online Plain ∷ []) (7 ∷ []) tt);
+  globals = globals b_away;
+  logged = record { lawful = λ op h. absurd (nothing_logged op h); numbered = λ op h. absurd (nothing_logged op h); hulls = λ a b h g e f. absurd (nothing_logged a h) };
+  locals = λ location h. each_site (λ l. IsAttached sites_known b_away l → LocalCells (mappings_of pieces_at_rest) (log_of []) 1 l (image_to_compare.at (Shard l)).locals) sites_known ((λ g. a_locals), ((λ g. absurd (b_not_attached g)), tt)) location h.known h;
+  online = λ location h. each_site (λ l. IsAttached sites_known b_away l → OnlineRows maps_m (owner_with pieces_at_rest) (log_of []) l (image_to_compare.at (Shard l)).locals) sites_known ((λ g. a_online), ((λ g. absurd (b_not_attached g)), tt)) location h.known h;
+  rows = λ location h. each_site (λ l. IsAttached sites_known b_away l → RowCells maps_m tables_t (owner_with pieces_at_rest) (jobs_of []) l (image_to_compare.at (Shard l)).rows) sites_known ((λ g. a_rows), ((λ g. absurd (b_not_attached g)), tt)) location h.known h;
+  batches = λ job h. absurd (no_job job h);
+  suspect = λ location h. each_site (λ l. fin.get b_away l ≡ Some Suspect → SuspectSite maps_m shards_ab l (image_to_compare.at (Shard l)).locals) sites_known ((λ g. absurd (a_not_suspect g)), ((λ g. b_suspect), tt)) location h.0 h.1;
+  jobs = λ job h. absurd (no_job job h);
+  progress = λ job h. absurd (no_job job h);
+  tokens = no_tokens;
+}

@@ -1,0 +1,176 @@
+-- Whole images for the examples of sound ones, and each part of sound over the tables that it reads.
+use Rattle.std.specs.Prelude.{ℕ, List, [], ◌∷◌, Option, Some, None, map, if◌then◌else◌}
+use Rattle.cell_world.specs.Texts.{Text}
+use Rattle.cell_world.specs.Keys.{same}
+use Rattle.cell_world.specs.Stores.{Store, Shards, AwaySites, empty_store}
+use Rattle.cell_world.specs.Images.{Image, Place, Global, Shard}
+use Rattle.cell_world.specs.Lawful.{ReadTables}
+use Rattle.cell_world.specs.Marked.{MarkTables}
+use Rattle.cell_world.specs.Sound.{GlobalCells, LogCells, LocalCells, OnlineRows, RowCells, BatchRows, SuspectSite, JobCells, IsBatch, IsCutOff, JobTokens}
+use Rattle.cell_world.specs.declared.cells.Away.TheVariants.{Suspect}
+use Rattle.cell_world.specs.declared.cells.Counters.{Counters}
+use Rattle.cell_world.specs.declared.cells.LocalRow.{LocalRow}
+use Rattle.cell_world.specs.declared.cells.Mark.TheVariants.{Plain, Old, New}
+use Rattle.cell_world.specs.declared.cells.RowName.{RowName}
+use Rattle.cell_world.specs.declared.cells.Status.TheVariants.{Online, Offline}
+use Rattle.cell_world.specs.declared.operations.Extra.TheVariants as extra
+use Rattle.cell_world.specs.declared.operations.JobRow.{JobRow}
+use Rattle.cell_world.specs.declared.operations.Op.{Op}
+use Rattle.cell_world.specs.declared.operations.Phase.{Phase}
+use Rattle.cell_world.specs.declared.operations.Phase.TheVariants.{Idle, Copying, Moved}
+use Rattle.cell_world.specs.declared.operations.Piece.{Piece}
+use Rattle.cell_world.specs.declared.spans.High.{High}
+use Rattle.cell_world.specs.declared.spans.High.TheVariants.{At}
+use Rattle.world_examples.specs.Examples.{int_key, range, map_m, site_a, site_b, free_piece, job_piece, job_at, local_row, row_of, no_pieces, one_piece, op_on, maps_m, shards_ab, tables_t, mappings_of, log_of, jobs_of, away_of, locals_of, rows_of, owner_with}
+
+-- ---- stores and images
+
+-- the two locations of the world
+abbrev pub sites_known : List Text
+sites_known = site_a ∷ site_b ∷ []
+
+-- rows of `t` with these keys, each with its key as its number, and with nothing in them
+abbrev pub rows_with : List ℕ → List (RowName × Text)
+rows_with keys = map (λ key. (row_of key key, [])) keys
+
+-- the global store where the map `m` stands, with its two shards and its table
+abbrev pub global_with : List Piece → List Op → List JobRow → Option Counters → Store
+global_with pieces ops jobs counter = record empty_store { maps = maps_m; shards = shards_ab; tables = tables_t; mappings = mappings_of pieces; log = log_of ops; jobs = jobs_of jobs; counter = counter; away = away_of [] }
+
+-- the store of a shard with these local rows, and with rows of `t` with these keys
+abbrev pub shard_with : List LocalRow → List ℕ → Store
+shard_with locals keys = record empty_store { locals = locals_of locals; rows = rows_of (rows_with keys) }
+
+abbrev pub stores_at : Store → Store → Store → Place → Store
+stores_at all a b Global = all
+stores_at all a b (Shard location) = if same location site_a then a else if same location site_b then b else empty_store
+
+-- the global store, that of `s/a` and that of `s/b`
+abbrev pub image_with : Store → Store → Store → Image
+image_with all a b = record { locations = sites_known; at = stores_at all a b }
+
+-- ---- an image at rest: [0, 5) is online at `s/a`, [5, 10) offline at `s/b`
+
+abbrev pub pieces_at_rest : List Piece
+pieces_at_rest = free_piece 0 5 site_a Online ∷ free_piece 5 10 site_b Offline ∷ []
+
+abbrev pub global_at_rest : Store
+global_at_rest = global_with pieces_at_rest [] [] None
+
+abbrev pub a_at_rest : Store
+a_at_rest = shard_with (local_row 0 5 0 Online Plain ∷ []) (1 ∷ 2 ∷ [])
+
+abbrev pub b_at_rest : Store
+b_at_rest = shard_with (local_row 5 10 0 Offline Plain ∷ []) (7 ∷ [])
+
+abbrev pub image_at_rest : Image
+image_at_rest = image_with global_at_rest a_at_rest b_at_rest
+
+-- the same with `s/b` suspect, which lost its mapping's local row and has another one
+abbrev pub b_to_compare : Store
+b_to_compare = shard_with (local_row 20 30 0 Online Plain ∷ []) (7 ∷ [])
+
+abbrev pub image_to_compare : Image
+image_to_compare = image_with (record global_at_rest { away = away_of ((site_b, Suspect) ∷ []) }) a_at_rest b_to_compare
+
+-- ---- an image with a job: [0, 3) has moved to `s/b`, the batch [3, 6) is copied, and its first row is there already
+
+abbrev pub pieces_moving : List Piece
+pieces_moving = job_piece 0 3 site_b Online ∷ job_piece 3 6 site_a Offline ∷ job_piece 6 10 site_a Online ∷ []
+
+abbrev pub job_moving : JobRow
+job_moving = job_at 3 (Copying (At (int_key 6)))
+
+abbrev pub global_moving : Store
+global_moving = global_with pieces_moving [] (job_moving ∷ []) (Some (record { operation = 1; job = 2 }))
+
+abbrev pub a_moving : Store
+a_moving = shard_with (local_row 3 6 0 Offline Plain ∷ local_row 6 10 0 Online Plain ∷ []) (4 ∷ 5 ∷ 7 ∷ [])
+
+abbrev pub b_moving : Store
+b_moving = shard_with (local_row 0 3 0 Online Plain ∷ []) (1 ∷ 2 ∷ 4 ∷ [])
+
+abbrev pub image_moving : Image
+image_moving = image_with global_moving a_moving b_moving
+
+-- ---- an image with two logged operations and their marks: [0, 5) goes offline at `s/a`, and [5, 10) is added at `s/b`
+
+abbrev pub pieces_logged : List Piece
+pieces_logged = free_piece 0 5 site_a Online ∷ []
+
+abbrev pub offline_logged : Op
+offline_logged = op_on 1 (range 0 5) (one_piece (free_piece 0 5 site_a Online)) (one_piece (free_piece 0 5 site_a Offline)) extra.None
+
+abbrev pub add_logged : Op
+add_logged = op_on 2 (range 5 10) no_pieces (one_piece (free_piece 5 10 site_b Online)) extra.None
+
+abbrev pub global_logged : Store
+global_logged = global_with pieces_logged (offline_logged ∷ add_logged ∷ []) [] (Some (record { operation = 3; job = 1 }))
+
+abbrev pub a_logged : Store
+a_logged = shard_with (local_row 0 5 0 Online (Old 1) ∷ local_row 0 5 1 Offline New ∷ []) (1 ∷ 2 ∷ [])
+
+abbrev pub b_logged : Store
+b_logged = shard_with (local_row 5 10 2 Online New ∷ []) []
+
+abbrev pub image_logged : Image
+image_logged = image_with global_logged a_logged b_logged
+
+-- ---- the parts of sound, over short lists
+
+-- the tables of the global store that a lawful operation reads, where no shard has a row
+abbrev pub tables_with : List Piece → ReadTables
+tables_with pieces = record { locations = sites_known; maps = maps_m; shards = shards_ab; mappings = mappings_of pieces; jobs = jobs_of []; away = away_of []; rows_at = λ location. rows_of [] }
+
+-- the log cells, where these mappings stand and the next operation has this number
+abbrev pub LogCellsWith : List Piece → List Op → ℕ → Type 0
+LogCellsWith pieces ops next = LogCells (tables_with pieces) (log_of ops) next
+
+-- the local cells of `s/a`
+abbrev pub LocalCellsWith : List Piece → List Op → ℕ → List LocalRow → Type 0
+LocalCellsWith pieces ops next locals = LocalCells (mappings_of pieces) (log_of ops) next site_a (locals_of locals)
+
+-- the online rows of `s/a`
+abbrev pub OnlineRowsWith : List Piece → List Op → List LocalRow → Type 0
+OnlineRowsWith pieces ops locals = OnlineRows maps_m (owner_with pieces) (log_of ops) site_a (locals_of locals)
+
+-- the row cells of `s/a`
+abbrev pub RowCellsWith : List Piece → List JobRow → List (RowName × Text) → Type 0
+RowCellsWith pieces jobs rows = RowCells maps_m tables_t (owner_with pieces) (jobs_of jobs) site_a (rows_of rows)
+
+-- the rows of the batch [3, 6) of job 1 at its source and at its target
+abbrev pub BatchRowsWith : (High → Phase) → List (RowName × Text) → List (RowName × Text) → Type 0
+BatchRowsWith phase source target = BatchRows (job_at 3 (phase (At (int_key 6)))) (phase (At (int_key 6))) (rows_of source) (rows_of target)
+
+-- the local cells of `s/b`, which is suspect
+abbrev pub SuspectSiteWith : Shards → List LocalRow → Type 0
+SuspectSiteWith shards locals = SuspectSite maps_m shards site_b (locals_of locals)
+
+-- a job, where the next one has number 2
+abbrev pub JobCellsWith : List Piece → JobRow → Type 0
+JobCellsWith pieces job = JobCells maps_m shards_ab (mappings_of pieces) 2 job
+
+-- the batch of a job
+abbrev pub IsBatchWith : AwaySites → List Piece → JobRow → Type 0
+IsBatchWith away pieces job = IsBatch sites_known away (mappings_of pieces) job job.phase
+
+abbrev pub IsCutOffWith : List Piece → JobRow → Type 0
+IsCutOffWith pieces job = IsCutOff (mappings_of pieces) job
+
+abbrev pub JobTokensWith : List Piece → List JobRow → Type 0
+JobTokensWith pieces jobs = JobTokens (mappings_of pieces) (jobs_of jobs)
+
+-- ---- stages: [0, 5) moves from `s/a` to `s/b`
+
+abbrev pub move_logged : Op
+move_logged = op_on 1 (range 0 5) (one_piece (free_piece 0 5 site_a Offline)) (one_piece (free_piece 0 5 site_b Offline)) extra.None
+
+-- the logged operations, the next number, and the local rows of `s/a` and of `s/b`
+abbrev pub marks_with : List Op → ℕ → List LocalRow → List LocalRow → MarkTables
+marks_with ops next a b = record {
+  locations = sites_known;
+  away = away_of [];
+  log = log_of ops;
+  next = next;
+  locals_at = λ location. if same location site_a then locals_of a else if same location site_b then locals_of b else locals_of [];
+}
