@@ -2,5 +2,6 @@ pub mod Accepting
 pub mod Refusing
 pub mod AtRest
 pub mod ImageParts
+pub mod Moving
 pub mod Standing
 pub mod Tables
