@@ -32,7 +32,7 @@ use Rattle.cell_world.proofs.SpanLaws.{not_true, same_self}
 use Rattle.world_examples.specs.Examples.{int_key, range, map_m, site_a, site_b, job_piece, local_row, maps_m, shards_ab, tables_t, keyed_pieces, mappings_of, log_of, jobs_of, locals_of, rows_of, away_of, owner_with}
 use Rattle.world_examples.specs.Sounds.{sites_known, rows_with, pieces_moving, job_moving, global_moving, a_moving, b_moving, image_moving}
 use Rattle.world_examples.proofs.Tables.{get_of}
-use Rattle.world_examples.proofs.Standing.{standing, each_site, AllTwo, OneAtAKey, m_stands, owner_there, cut, not_both, at_most_of}
+use Rattle.world_examples.proofs.Standing.{standing, each_site, AllTwo, OneAtAKey, m_stands, owner_there, cut, not_both}
 use Rattle.world_examples.proofs.ImageParts.{local_cells, online_rows, row_cells, b_not_a, offline_not_online, normal_of_m, numbered_jobs, keyed_locals, global_keyed, shard_keyed, image_keyed, global_cells, a_is_shard, b_is_shard, t_is_table, a_attached, b_attached}
 
 abbrev moved : Piece

@@ -97,7 +97,7 @@ each_site P (s ∷ ss) all location e = by (same location s) refl e (each_site P
 
 -- ---- spans
 
-pub at_most_of : (a b : Text) → below a b ≡ false → at_most b a ≡ true
+at_most_of : (a b : Text) → below a b ≡ false → at_most b a ≡ true
 at_most_of a b = by (byte_cmp a b) (nat_list_cmp_total.antisymm b a)
   where
     by : (r : Ordering) → byte_cmp b a ≡ ordering_reverse r → is_lt r ≡ false → at_most b a ≡ true
