@@ -1,34 +1,30 @@
 -- The image at rest is sound, and so it is with a suspect site.
-use Rattle.std.proofs.Common.{◌≡◌, ℕ, ◌<◌, ◌^◌, true≢false, refl, sym, ap, ◌∙◌, subst, Some, None, List, [], ◌∷◌, is_some, arith, inl, inr, cond}
+use Rattle.std.proofs.Common.{◌≡◌, ℕ, ◌<◌, ◌^◌, true≢false, refl, sym, ap, ◌∙◌, Some, None, List, [], ◌∷◌, arith, inl}
 use Rattle.std.specs.Prelude.{IsTrue, IfSome}
 use Rattle.std.specs.FinMap as fin
-use Rattle.std.specs.Ordering.{nat_cmp}
 use Rattle.std.proofs.lemmas.Map.Lookups.{exact_unsigned}
 use Rattle.cell_world.specs.Texts.{Text}
 use Rattle.cell_world.specs.ByteOrder.{byte_cmp}
-use Rattle.cell_world.specs.Orders.{pair_cmp, local_cmp, row_cmp}
-use Rattle.cell_world.specs.Keys.{contains, overlaps, low_of}
+use Rattle.cell_world.specs.Orders.{pair_cmp, local_cmp}
+use Rattle.cell_world.specs.Keys.{contains, overlaps}
 use Rattle.cell_world.specs.KeyForms.{is_normal}
 use Rattle.cell_world.specs.Stores.{AwaySites, Store, piece_key, local_key}
-use Rattle.cell_world.specs.Images.{Shard, global}
-use Rattle.cell_world.specs.Meaning.{counts}
-use Rattle.cell_world.specs.Plain.{is_attached, owner_in}
+use Rattle.cell_world.specs.Images.{Shard}
+use Rattle.cell_world.specs.Plain.{is_attached}
 use Rattle.cell_world.specs.Lawful.{IsAttached}
-use Rattle.cell_world.specs.Sound.{Sound, JobTokens, GlobalCells, LocalCells, OnlineRows, RowCells, SuspectSite, HasPiece, HasLocal, HasLog, HasJob, HasTable, HasShard, IsSpanOf, IsKeyOf, IsOwnedBy, IsComing, IsBeingMoved, IsMarked, Matches, mark_below}
-use Rattle.cell_world.specs.declared.cells.Away.{Away}
+use Rattle.cell_world.specs.Sound.{Sound, JobTokens, GlobalCells, LocalCells, OnlineRows, RowCells, SuspectSite, HasPiece, HasLog, HasJob, HasShard, IsSpanOf, IsOwnedBy}
 use Rattle.cell_world.specs.declared.cells.Away.TheVariants.{Suspect}
 use Rattle.cell_world.specs.declared.cells.KeyType.TheVariants.{Int}
 use Rattle.cell_world.specs.declared.cells.LocalRow.{LocalRow}
 use Rattle.cell_world.specs.declared.cells.MapKind.TheVariants as kind
 use Rattle.cell_world.specs.declared.cells.Mark.TheVariants.{Plain}
-use Rattle.cell_world.specs.declared.cells.RowName.{RowName}
 use Rattle.cell_world.specs.declared.cells.Status.TheVariants.{Online, Offline}
 use Rattle.cell_world.specs.declared.operations.JobRow.{JobRow}
 use Rattle.cell_world.specs.declared.operations.Op.{Op}
 use Rattle.cell_world.specs.declared.operations.Piece.{Piece}
 use Rattle.cell_world.proofs.OrderLaws.{exact_text_pairs, exact_texts, exact_locals}
-use Rattle.world_examples.specs.Examples.{int_key, map_m, site_a, site_b, free_piece, local_row, maps_m, shards_ab, tables_t, keyed_pieces, mappings_of, log_of, jobs_of, locals_of, rows_of, away_of, owner_with}
-use Rattle.world_examples.specs.Sounds.{sites_known, rows_with, pieces_at_rest, global_at_rest, a_at_rest, b_at_rest, b_to_compare, image_at_rest, image_to_compare}
+use Rattle.world_examples.specs.Examples.{int_key, map_m, site_a, site_b, free_piece, local_row, maps_m, shards_ab, tables_t, keyed_pieces, mappings_of, log_of, jobs_of, away_of, owner_with}
+use Rattle.world_examples.specs.Sounds.{sites_known, pieces_at_rest, global_at_rest, a_at_rest, b_at_rest, b_to_compare, image_at_rest, image_to_compare}
 use Rattle.world_examples.proofs.Tables.{get_of}
 use Rattle.world_examples.proofs.Standing.{standing, two_standing, each_site, AllTwo, OneAtAKey, m_stands, owner_there}
 use Rattle.world_examples.proofs.ImageParts.{local_cells, online_rows, row_cells, b_not_a, offline_not_online, normal_of_m, keyed_locals, global_keyed, shard_keyed, image_keyed, global_cells, a_is_shard, b_is_shard, t_is_table}
@@ -69,18 +65,20 @@ high_owned key normal h = (high, owner_there pieces_at_rest tt apart high refl r
 
 a_locals : LocalCells (mappings_of pieces_at_rest) (log_of []) 1 site_a a_at_rest.locals
 a_locals = local_cells pieces_at_rest [] site_a (local_row 0 5 0 Online Plain ∷ []) tt tt 1
-    ((λ c. (low, low_stands, refl, record { map = refl; span = refl; status = refl })), tt)
-    ((λ c. (local_row 0 5 0 Online Plain, get_of local_cmp (keyed_locals (local_row 0 5 0 Online Plain ∷ [])) tt (local_key (local_row 0 5 0 Online Plain)), refl, record { map = refl; span = refl; status = refl })),
-      ((λ c. absurd (b_not_a c)), tt))
+    ((λ c. (low, low_stands, refl, record { map = refl; span = refl; status = refl })), tt) (
+      (λ c. (local_row 0 5 0 Online Plain, get_of local_cmp (keyed_locals (local_row 0 5 0 Online Plain ∷ [])) tt (local_key (local_row 0 5 0 Online Plain)), refl, record { map = refl; span = refl; status = refl })),
+      ((λ c. absurd (b_not_a c)), tt),
+    )
     (((λ c d e f. refl), tt), tt)
     (tt, tt)
     ((omega arith, refl), tt)
 
 b_locals : LocalCells (mappings_of pieces_at_rest) (log_of []) 1 site_b b_at_rest.locals
 b_locals = local_cells pieces_at_rest [] site_b (local_row 5 10 0 Offline Plain ∷ []) tt tt 1
-    ((λ c. (high, high_stands, refl, record { map = refl; span = refl; status = refl })), tt)
-    ((λ c. absurd (b_not_a (sym c))),
-      ((λ c. (local_row 5 10 0 Offline Plain, get_of local_cmp (keyed_locals (local_row 5 10 0 Offline Plain ∷ [])) tt (local_key (local_row 5 10 0 Offline Plain)), refl, record { map = refl; span = refl; status = refl })), tt))
+    ((λ c. (high, high_stands, refl, record { map = refl; span = refl; status = refl })), tt) (
+      (λ c. absurd (b_not_a (sym c))),
+      ((λ c. (local_row 5 10 0 Offline Plain, get_of local_cmp (keyed_locals (local_row 5 10 0 Offline Plain ∷ [])) tt (local_key (local_row 5 10 0 Offline Plain)), refl, record { map = refl; span = refl; status = refl })), tt),
+    )
     (((λ c d e f. refl), tt), tt)
     (tt, tt)
     ((omega arith, refl), tt)

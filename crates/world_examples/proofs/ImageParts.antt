@@ -1,6 +1,6 @@
 -- What all the images of the examples have in common: `m` with its shards and its table, and each cell under its own key.
-use Rattle.std.proofs.Common.{◌≡◌, ℕ, ◌≤◌, ◌<◌, ◌^◌, ◌⊎◌, Bool, true, false, true≢false, refl, ap, ◌∙◌, subst, sym, Some, None, Option, List, [], ◌∷◌, cond, map, T, is_some}
-use Rattle.std.specs.Prelude.{IsTrue, IsSome, IfSome}
+use Rattle.std.proofs.Common.{◌≡◌, ℕ, ◌≤◌, ◌<◌, ◌^◌, ◌⊎◌, Bool, true, false, true≢false, refl, ap, subst, sym, None, Option, List, [], ◌∷◌, cond, map, T, is_some}
+use Rattle.std.specs.Prelude.{IsTrue, IsSome}
 use Rattle.std.specs.List.{AllByRecursion}
 use Rattle.std.specs.Ordering.{nat_cmp}
 use Rattle.std.specs.FinMap as fin
@@ -141,12 +141,12 @@ module _ (pieces : List Piece) (ops : List Op) (location : Text) (locals : List 
 
   pub online_rows : AllByRecursion (λ e. e.1.status ≡ Online → IsSpanOf maps_m e.1.map e.1.span) (keyed_locals locals)
       → AllByRecursion (λ e. e.1.status ≡ Online → (key : Text) → IsTrue (contains e.1.span key) → IsKeyOf maps_m e.1.map key
-          → IsOwnedBy (owner_with pieces) e.1.map key location ⊎ ((owner_with pieces e.1.map key ≡ None) × IsComing log e.1.map key location)) (keyed_locals locals)
+      → IsOwnedBy (owner_with pieces) e.1.map key location ⊎ ((owner_with pieces e.1.map key ≡ None) × IsComing log e.1.map key location)) (keyed_locals locals)
       → OnlineRows maps_m (owner_with pieces) log location (locals_of locals)
   online_rows spans owned = record {
     spans = λ row. standing exact_locals (λ k r. r.status ≡ Online → IsSpanOf maps_m r.map r.span) (keyed_locals locals) sorted spans (local_key row) row;
     owned = λ row key f online holds of_type. standing exact_locals (λ k r. r.status ≡ Online → (key : Text) → IsTrue (contains r.span key) → IsKeyOf maps_m r.map key
-          → IsOwnedBy (owner_with pieces) r.map key location ⊎ ((owner_with pieces r.map key ≡ None) × IsComing log r.map key location)) (keyed_locals locals) sorted owned (local_key row) row f online key holds of_type;
+        → IsOwnedBy (owner_with pieces) r.map key location ⊎ ((owner_with pieces r.map key ≡ None) × IsComing log r.map key location)) (keyed_locals locals) sorted owned (local_key row) row f online key holds of_type;
   }
 
 module _ (pieces : List Piece) (jobs : List JobRow) (location : Text) (keys : List ℕ) (sorted : T (is_sorted row_cmp (rows_with keys))) where

@@ -4,5 +4,6 @@ pub mod AtRest
 pub mod ImageParts
 pub mod Logged
 pub mod Moving
+pub mod Refuting
 pub mod Standing
 pub mod Tables

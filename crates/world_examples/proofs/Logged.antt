@@ -1,15 +1,13 @@
 -- The image with two logged operations is sound, and both are marked.
-use Rattle.std.proofs.Common.{◌≡◌, ◌≢◌, ℕ, ◌<◌, ◌^◌, Bool, true, false, not, is_some, true≢false, refl, sym, ap, ◌∙◌, subst, Some, None, Option, List, [], ◌∷◌, arith, ◌⊎◌, inl, inr, ⊎_elim}
+use Rattle.std.proofs.Common.{◌≡◌, ℕ, ◌<◌, ◌^◌, true, false, not, is_some, true≢false, refl, sym, ap, subst, Some, None, List, [], ◌∷◌, arith, inl, inr}
 use Rattle.std.specs.Prelude.{IsTrue, IfSome}
 use Rattle.std.specs.List.{AllByRecursion, list_any}
 use Rattle.std.specs.FinMap as fin
 use Rattle.std.specs.Ordering.{nat_cmp}
-use Rattle.std.proofs.lemmas.Bool.{and_parts, and_from}
 use Rattle.std.proofs.lemmas.Map.Lookups.{exact_unsigned}
 use Rattle.cell_world.specs.Texts.{Text}
-use Rattle.cell_world.specs.ByteOrder.{byte_cmp}
-use Rattle.cell_world.specs.Orders.{pair_cmp, local_cmp, row_cmp}
-use Rattle.cell_world.specs.Keys.{contains, overlaps, low_of}
+use Rattle.cell_world.specs.Orders.{pair_cmp, local_cmp}
+use Rattle.cell_world.specs.Keys.{contains, overlaps}
 use Rattle.cell_world.specs.KeyForms.{is_normal, is_span_of}
 use Rattle.cell_world.specs.Lists.{SomeOf, IsOneOf}
 use Rattle.cell_world.specs.Meaning.{counts}
@@ -17,23 +15,18 @@ use Rattle.cell_world.specs.Spelled.{listed}
 use Rattle.cell_world.specs.Stores.{Log, piece_key, local_key}
 use Rattle.cell_world.specs.Images.{Shard}
 use Rattle.cell_world.specs.Lawful.{LawfulOn, read_tables}
-use Rattle.cell_world.specs.Sound.{Sound, LogCells, IsMarked, Matches, JobCells, JobTokens, BatchAt, IsBatch, IsCutOff, BatchRows, InBatch, IsOwnedAs, GlobalCells, LocalCells, OnlineRows, RowCells, HasPiece, HasLog, HasJob, HasLocal, IsKeyOf, IsOwnedBy, IsBeingMoved, batch_high}
+use Rattle.cell_world.specs.Sound.{Sound, LogCells, IsMarked, Matches, GlobalCells, LocalCells, OnlineRows, RowCells, HasPiece, HasLog, HasJob, HasLocal, IsOwnedBy}
 use Rattle.cell_world.specs.declared.cells.Away.TheVariants.{Suspect}
 use Rattle.cell_world.specs.declared.cells.KeyType.TheVariants.{Int}
 use Rattle.cell_world.specs.declared.cells.LocalRow.{LocalRow}
 use Rattle.cell_world.specs.declared.cells.MapKind.TheVariants as kind
-use Rattle.cell_world.specs.declared.cells.Mark.TheVariants.{Plain, Old, New}
-use Rattle.cell_world.specs.declared.cells.RowName.{RowName}
+use Rattle.cell_world.specs.declared.cells.Mark.TheVariants.{Old, New}
 use Rattle.cell_world.specs.declared.cells.Status.TheVariants.{Online, Offline}
 use Rattle.cell_world.specs.declared.operations.JobRow.{JobRow}
 use Rattle.cell_world.specs.declared.operations.Op.{Op}
 use Rattle.cell_world.specs.declared.operations.Piece.{Piece}
-use Rattle.cell_world.specs.declared.spans.High.{High}
-use Rattle.cell_world.specs.declared.spans.High.TheVariants.{At, Max}
-use Rattle.cell_world.specs.declared.spans.Span.TheVariants.{Range}
-use Rattle.cell_world.proofs.OrderLaws.{exact_text_pairs, exact_texts, exact_rows}
-use Rattle.cell_world.proofs.SpanLaws.{not_true, same_self}
-use Rattle.world_examples.specs.Examples.{int_key, range, map_m, site_a, site_b, free_piece, local_row, maps_m, shards_ab, tables_t, keyed_pieces, mappings_of, log_of, jobs_of, locals_of, rows_of, away_of, owner_with}
+use Rattle.cell_world.proofs.OrderLaws.{exact_text_pairs, exact_texts}
+use Rattle.world_examples.specs.Examples.{int_key, range, map_m, site_a, site_b, free_piece, local_row, maps_m, tables_t, keyed_pieces, mappings_of, log_of, jobs_of, away_of, owner_with}
 use Rattle.world_examples.specs.Sounds.{sites_known, pieces_logged, offline_logged, add_logged, global_logged, a_logged, b_logged, image_logged}
 use Rattle.world_examples.proofs.Tables.{get_of}
 use Rattle.world_examples.proofs.Standing.{standing, two_standing, each_site, AllTwo, OneAtAKey, m_stands, owner_there, nobody_there, not_both}

@@ -1,35 +1,31 @@
 -- The image with a job is sound.
-use Rattle.std.proofs.Common.{◌≡◌, ◌≢◌, ℕ, ◌<◌, ◌^◌, Bool, true, false, not, true≢false, refl, sym, ap, ◌∙◌, subst, Some, None, Option, List, [], ◌∷◌, arith, ◌⊎◌, inl, inr, ⊎_elim}
+use Rattle.std.proofs.Common.{◌≡◌, ◌<◌, ◌^◌, true, false, not, true≢false, refl, sym, subst, Some, List, [], ◌∷◌, arith, inl, inr, ⊎_elim}
 use Rattle.std.specs.Prelude.{IsTrue, IfSome}
 use Rattle.std.specs.FinMap as fin
 use Rattle.std.specs.Ordering.{nat_cmp}
-use Rattle.std.proofs.lemmas.Bool.{and_parts, and_from}
+use Rattle.std.proofs.lemmas.Bool.{and_parts}
 use Rattle.std.proofs.lemmas.Map.Lookups.{exact_unsigned}
 use Rattle.cell_world.specs.Texts.{Text}
-use Rattle.cell_world.specs.ByteOrder.{byte_cmp}
 use Rattle.cell_world.specs.Orders.{pair_cmp, local_cmp, row_cmp}
-use Rattle.cell_world.specs.Keys.{same, contains, before, low_of}
+use Rattle.cell_world.specs.Keys.{same, contains, before}
 use Rattle.cell_world.specs.KeyForms.{is_normal}
 use Rattle.cell_world.specs.Stores.{piece_key, local_key}
 use Rattle.cell_world.specs.Images.{Shard}
-use Rattle.cell_world.specs.Lawful.{IsAttached}
-use Rattle.cell_world.specs.Sound.{Sound, JobCells, JobTokens, BatchAt, IsBatch, IsCutOff, BatchRows, InBatch, IsOwnedAs, GlobalCells, LocalCells, OnlineRows, RowCells, HasPiece, HasLog, HasJob, HasLocal, IsKeyOf, IsOwnedBy, IsBeingMoved, batch_high}
+use Rattle.cell_world.specs.Sound.{Sound, JobCells, JobTokens, IsBatch, BatchRows, InBatch, GlobalCells, LocalCells, OnlineRows, RowCells, HasPiece, HasLog, HasJob, IsBeingMoved}
 use Rattle.cell_world.specs.declared.cells.Away.TheVariants.{Suspect}
 use Rattle.cell_world.specs.declared.cells.KeyType.TheVariants.{Int}
 use Rattle.cell_world.specs.declared.cells.LocalRow.{LocalRow}
 use Rattle.cell_world.specs.declared.cells.MapKind.TheVariants as kind
 use Rattle.cell_world.specs.declared.cells.Mark.TheVariants.{Plain}
-use Rattle.cell_world.specs.declared.cells.RowName.{RowName}
 use Rattle.cell_world.specs.declared.cells.Status.TheVariants.{Online, Offline}
 use Rattle.cell_world.specs.declared.operations.JobRow.{JobRow}
 use Rattle.cell_world.specs.declared.operations.Op.{Op}
 use Rattle.cell_world.specs.declared.operations.Piece.{Piece}
-use Rattle.cell_world.specs.declared.spans.High.{High}
-use Rattle.cell_world.specs.declared.spans.High.TheVariants.{At, Max}
+use Rattle.cell_world.specs.declared.spans.High.TheVariants.{At}
 use Rattle.cell_world.specs.declared.spans.Span.TheVariants.{Range}
 use Rattle.cell_world.proofs.OrderLaws.{exact_text_pairs, exact_texts, exact_rows}
 use Rattle.cell_world.proofs.SpanLaws.{not_true, same_self}
-use Rattle.world_examples.specs.Examples.{int_key, range, map_m, site_a, site_b, job_piece, local_row, maps_m, shards_ab, tables_t, keyed_pieces, mappings_of, log_of, jobs_of, locals_of, rows_of, away_of, owner_with}
+use Rattle.world_examples.specs.Examples.{int_key, range, map_m, site_a, site_b, job_piece, local_row, maps_m, shards_ab, tables_t, keyed_pieces, mappings_of, log_of, jobs_of, away_of, owner_with}
 use Rattle.world_examples.specs.Sounds.{sites_known, rows_with, pieces_moving, job_moving, global_moving, a_moving, b_moving, image_moving}
 use Rattle.world_examples.proofs.Tables.{get_of}
 use Rattle.world_examples.proofs.Standing.{standing, each_site, AllTwo, OneAtAKey, m_stands, owner_there, cut, not_both}
@@ -57,9 +53,13 @@ job_stands : HasJob (jobs_of (job_moving ∷ [])) job_moving
 job_stands = get_of nat_cmp (numbered_jobs (job_moving ∷ [])) tt 1
 
 apart : AllTwo (λ d e. OneAtAKey d.1 e.1) (keyed_pieces pieces_moving)
-apart = (((λ e f. refl), ((λ e f. absurd (true≢false (sym f))), ((λ e f. absurd (true≢false (sym f))), tt))),
-    (((λ e f. absurd (true≢false (sym f))), ((λ e f. refl), ((λ e f. absurd (true≢false (sym f))), tt))),
-    (((λ e f. absurd (true≢false (sym f))), ((λ e f. absurd (true≢false (sym f))), ((λ e f. refl), tt))), tt)))
+apart = (
+  ((λ e f. refl), ((λ e f. absurd (true≢false (sym f))), ((λ e f. absurd (true≢false (sym f))), tt))),
+  (
+    ((λ e f. absurd (true≢false (sym f))), ((λ e f. refl), ((λ e f. absurd (true≢false (sym f))), tt))),
+    (((λ e f. absurd (true≢false (sym f))), ((λ e f. absurd (true≢false (sym f))), ((λ e f. refl), tt))), tt),
+  ),
+)
 
 -- ---- owners
 
@@ -101,18 +101,22 @@ job_cells = record {
     from_end key h g = ⊎_elim (λ f. absurd (not_both (before key (At (int_key 6))) (not_true _ g) (and_parts _ _ f).1)) (λ f. f) (cut (int_key 0) (int_key 6) (At (int_key 10)) key h)
 
 progress : IsBatch sites_known (away_of []) (mappings_of pieces_moving) job_moving job_moving.phase
-progress = (record {
-  above = refl;
-  within = refl;
-  low = int_key 3;
-  at_cursor = refl;
-  piece = batch;
-  stands = batch_stands;
-  of_map = refl;
-  span = refl;
-  offline = refl;
-  at_site = refl;
-}, a_attached, b_attached)
+progress = (
+  record {
+    above = refl;
+    within = refl;
+    low = int_key 3;
+    at_cursor = refl;
+    piece = batch;
+    stands = batch_stands;
+    of_map = refl;
+    span = refl;
+    offline = refl;
+    at_site = refl;
+  },
+  a_attached,
+  b_attached,
+)
 
 tokens : JobTokens (mappings_of pieces_moving) (jobs_of (job_moving ∷ []))
 tokens p = standing exact_text_pairs (λ k q. IfSome q.token (λ token. token.0 < 2 ^ 64 → (job : JobRow) × HasJob (jobs_of (job_moving ∷ [])) job × (job.number ≡ token.0) × (job.map ≡ q.map))) (keyed_pieces pieces_moving) tt
@@ -154,10 +158,13 @@ globals = global_cells pieces_moving [] (job_moving ∷ []) (Some (record { oper
 
 a_locals : LocalCells (mappings_of pieces_moving) (log_of []) 1 site_a a_moving.locals
 a_locals = local_cells pieces_moving [] site_a rows_at_a tt tt 1
-    ((λ c. (batch, batch_stands, refl, record { map = refl; span = refl; status = refl })), ((λ c. (rest, rest_stands, refl, record { map = refl; span = refl; status = refl })), tt))
-    ((λ c. absurd (b_not_a c)),
-      ((λ c. (a_row_1, get_of local_cmp (keyed_locals rows_at_a) tt (local_key a_row_1), refl, record { map = refl; span = refl; status = refl })),
-      ((λ c. (a_row_2, get_of local_cmp (keyed_locals rows_at_a) tt (local_key a_row_2), refl, record { map = refl; span = refl; status = refl })), tt)))
+    ((λ c. (batch, batch_stands, refl, record { map = refl; span = refl; status = refl })), ((λ c. (rest, rest_stands, refl, record { map = refl; span = refl; status = refl })), tt)) (
+      (λ c. absurd (b_not_a c)),
+      (
+        (λ c. (a_row_1, get_of local_cmp (keyed_locals rows_at_a) tt (local_key a_row_1), refl, record { map = refl; span = refl; status = refl })),
+        ((λ c. (a_row_2, get_of local_cmp (keyed_locals rows_at_a) tt (local_key a_row_2), refl, record { map = refl; span = refl; status = refl })), tt),
+      ),
+    )
     (((λ c d e f. refl), ((λ c d e f. absurd (not_low (int_key 3) (int_key 6) refl f)), tt)), (((λ c d e f. absurd (not_low (int_key 6) (int_key 3) refl f)), ((λ c d e f. refl), tt)), tt))
     (tt, (tt, tt))
     ((omega arith, refl), ((omega arith, refl), tt))
@@ -167,9 +174,10 @@ a_locals = local_cells pieces_moving [] site_a rows_at_a tt tt 1
 
 b_locals : LocalCells (mappings_of pieces_moving) (log_of []) 1 site_b b_moving.locals
 b_locals = local_cells pieces_moving [] site_b (b_row ∷ []) tt tt 1
-    ((λ c. (moved, moved_stands, refl, record { map = refl; span = refl; status = refl })), tt)
-    ((λ c. (b_row, get_of local_cmp (keyed_locals (b_row ∷ [])) tt (local_key b_row), refl, record { map = refl; span = refl; status = refl })),
-      ((λ c. absurd (b_not_a (sym c))), ((λ c. absurd (b_not_a (sym c))), tt)))
+    ((λ c. (moved, moved_stands, refl, record { map = refl; span = refl; status = refl })), tt) (
+      (λ c. (b_row, get_of local_cmp (keyed_locals (b_row ∷ [])) tt (local_key b_row), refl, record { map = refl; span = refl; status = refl })),
+      ((λ c. absurd (b_not_a (sym c))), ((λ c. absurd (b_not_a (sym c))), tt)),
+    )
     (((λ c d e f. refl), tt), tt)
     (tt, tt)
     ((omega arith, refl), tt)

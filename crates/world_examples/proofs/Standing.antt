@@ -71,8 +71,8 @@ module _ {K X : Type 0} {R : K → K → Ordering} (exact : IsAntisymmetric R) (
       → fin.get (fin.from_sorted {R = R} entries) j ≡ Some v → fin.get (fin.from_sorted {R = R} entries) k ≡ Some w → P v w
   two_standing entries sorted all j k v w f g =
       standing exact (λ l x. P v x) entries sorted
-        (standing exact (λ l x. AllByRecursion (λ e. P x e.1) entries) entries sorted all j v f)
-        k w g
+      (standing exact (λ l x. AllByRecursion (λ e. P x e.1) entries) entries sorted all j v f)
+      k w g
 
 -- What holds of each of a list holds of each member of the set.
 pub members : {K : Type 0} {R : K → K → Ordering} → IsTotalOrder R → IsAntisymmetric R → (P : K → Type 0) (keys : List K) → AllByRecursion P keys → (key : K) → IsTrue (set.contains (set.from_list {R = R} keys) key) → P key

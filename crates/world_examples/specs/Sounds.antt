@@ -6,7 +6,7 @@ use Rattle.cell_world.specs.Stores.{Store, Shards, AwaySites, empty_store}
 use Rattle.cell_world.specs.Images.{Image, Place, Global, Shard}
 use Rattle.cell_world.specs.Lawful.{ReadTables}
 use Rattle.cell_world.specs.Marked.{MarkTables}
-use Rattle.cell_world.specs.Sound.{GlobalCells, LogCells, LocalCells, OnlineRows, RowCells, BatchRows, SuspectSite, JobCells, IsBatch, IsCutOff, JobTokens}
+use Rattle.cell_world.specs.Sound.{LogCells, LocalCells, OnlineRows, RowCells, BatchRows, SuspectSite, JobCells, IsBatch, IsCutOff, JobTokens}
 use Rattle.cell_world.specs.declared.cells.Away.TheVariants.{Suspect}
 use Rattle.cell_world.specs.declared.cells.Counters.{Counters}
 use Rattle.cell_world.specs.declared.cells.LocalRow.{LocalRow}
@@ -17,11 +17,11 @@ use Rattle.cell_world.specs.declared.operations.Extra.TheVariants as extra
 use Rattle.cell_world.specs.declared.operations.JobRow.{JobRow}
 use Rattle.cell_world.specs.declared.operations.Op.{Op}
 use Rattle.cell_world.specs.declared.operations.Phase.{Phase}
-use Rattle.cell_world.specs.declared.operations.Phase.TheVariants.{Idle, Copying, Moved}
+use Rattle.cell_world.specs.declared.operations.Phase.TheVariants.{Copying}
 use Rattle.cell_world.specs.declared.operations.Piece.{Piece}
 use Rattle.cell_world.specs.declared.spans.High.{High}
 use Rattle.cell_world.specs.declared.spans.High.TheVariants.{At}
-use Rattle.world_examples.specs.Examples.{int_key, range, map_m, site_a, site_b, free_piece, job_piece, job_at, local_row, row_of, no_pieces, one_piece, op_on, maps_m, shards_ab, tables_t, mappings_of, log_of, jobs_of, away_of, locals_of, rows_of, owner_with}
+use Rattle.world_examples.specs.Examples.{int_key, range, site_a, site_b, free_piece, job_piece, job_at, local_row, row_of, no_pieces, one_piece, op_on, maps_m, shards_ab, tables_t, mappings_of, log_of, jobs_of, away_of, locals_of, rows_of, owner_with}
 
 -- ---- stores and images
 

@@ -1,6 +1,17 @@
 //! Examples of sound images, and for each clause of sound some that it refuses.
-ghost use Rattle.cell_world.specs.Sound.{Sound};
-ghost use Rattle.world_examples.specs.Sounds.{image_at_rest, image_to_compare};
+ghost use Rattle.std.specs.Prelude.{◌+◌, ◌^◌, [], ◌∷◌, None, Some};
+ghost use Rattle.cell_world.specs.Sound.{Sound, GlobalCells};
+ghost use Rattle.cell_world.specs.declared.cells.Away.TheVariants.{Detached, Suspect};
+ghost use Rattle.cell_world.specs.declared.cells.KeyType.TheVariants.{Int};
+ghost use Rattle.cell_world.specs.declared.cells.MapKind.TheVariants as kind;
+ghost use Rattle.cell_world.specs.declared.cells.Mark.TheVariants.{Plain, Old, New};
+ghost use Rattle.cell_world.specs.declared.cells.Status.TheVariants.{Online, Offline};
+ghost use Rattle.cell_world.specs.declared.operations.Extra.TheVariants as extra;
+ghost use Rattle.cell_world.specs.declared.operations.Phase.TheVariants.{Idle, Copying, Moved};
+ghost use Rattle.cell_world.specs.declared.spans.High.TheVariants.{At, Max};
+ghost use Rattle.cell_world.specs.declared.spans.Span.TheVariants.{Point};
+ghost use Rattle.world_examples.specs.Examples.{int_key, range, map_m, map_n, table_t, site_a, site_b, free_piece, job_piece, job_at, job_from, local_row, row_of, no_pieces, one_piece, op_on, add_at_a, shards_of, tables_of, away_of};
+ghost use Rattle.world_examples.specs.Sounds.{rows_with, global_with, global_at_rest, global_logged, image_at_rest, image_to_compare, image_moving, image_logged, add_logged, LogCellsWith, LocalCellsWith, OnlineRowsWith, RowCellsWith, BatchRowsWith, SuspectSiteWith, JobCellsWith, IsBatchWith, IsCutOffWith, JobTokensWith};
 
 // ---- whole images
 
@@ -12,4 +23,113 @@ pub fn sound_at_rest()
 /// The same with a suspect site, whose local cells are others than the mappings there.
 pub fn sound_with_a_suspect_site()
     ensures { Sound image_to_compare }
+{}
+
+/// A job in the midst of its second batch, of which one row is copied.
+pub fn sound_with_a_job()
+    ensures { Sound image_moving }
+{}
+
+/// A mapping that goes offline and one that is added, both in the log, with their marks.
+pub fn sound_with_logged_operations()
+    ensures { Sound image_logged }
+{}
+
+// ---- refused: global cells
+
+/// A shard cell or a table cell of a map that doesn't stand.
+pub fn refused_without_a_map()
+    ensures shards { GlobalCells (record global_at_rest { shards = shards_of ((map_m, site_a) ∷ (map_m, site_b) ∷ (map_n, site_a) ∷ []) }) → ⊥ }
+    ensures tables { GlobalCells (record global_at_rest { tables = tables_of ((map_m, table_t) ∷ (map_n, table_t) ∷ []) }) → ⊥ }
+{}
+
+/// A counter out of its bounds.
+pub fn refused_counters()
+    ensures no_operation { GlobalCells (record global_at_rest { counter = Some (record { operation = 0; job = 1 }) }) → ⊥ }
+    ensures too_many { GlobalCells (record global_at_rest { counter = Some (record { operation = 2 ^ 63 + 1; job = 1 }) }) → ⊥ }
+    ensures no_job { GlobalCells (record global_at_rest { counter = Some (record { operation = 1; job = 0 }) }) → ⊥ }
+{}
+
+/// Mappings that bind no span of the map, that are off its shards, or that overlap.
+pub fn refused_mappings()
+    ensures empty_span { GlobalCells (global_with (free_piece 5 5 site_a Online ∷ []) [] [] None) → ⊥ }
+    ensures point { GlobalCells (global_with (record (free_piece 0 5 site_a Online) { span = Point (int_key 0) } ∷ []) [] [] None) → ⊥ }
+    ensures on_shards { GlobalCells (record global_at_rest { shards = shards_of ((map_m, site_a) ∷ []) }) → ⊥ }
+    ensures disjoint { GlobalCells (global_with (free_piece 0 6 site_a Online ∷ free_piece 5 10 site_b Online ∷ []) [] [] None) → ⊥ }
+{}
+
+/// Log cells that aren't lawful, that have a number which wasn't given, or whose hulls overlap.
+pub fn refused_log_cells()
+    ensures unlawful { LogCellsWith [] (op_on 1 (range 0 5) no_pieces (one_piece (free_piece 0 5 site_a Offline)) extra.None ∷ []) 2 → ⊥ }
+    ensures numbered { LogCellsWith [] (add_at_a ∷ []) 1 → ⊥ }
+    ensures hulls { LogCellsWith [] (add_at_a ∷ record add_at_a { number = 2 } ∷ []) 3 → ⊥ }
+{}
+
+// ---- refused: local cells of an attached site
+
+/// A local row that counts and is of no mapping here: of none, or of one at another site, over other keys, or of another status.
+pub fn refused_where_a_row_counts()
+    ensures of_none { LocalCellsWith [] [] 1 (local_row 0 5 0 Online Plain ∷ []) → ⊥ }
+    ensures elsewhere { LocalCellsWith (free_piece 0 5 site_b Online ∷ []) [] 1 (local_row 0 5 0 Online Plain ∷ []) → ⊥ }
+    ensures other_span { LocalCellsWith (free_piece 0 6 site_a Online ∷ []) [] 1 (local_row 0 5 0 Online Plain ∷ []) → ⊥ }
+    ensures other_status { LocalCellsWith (free_piece 0 5 site_a Offline ∷ []) [] 1 (local_row 0 5 0 Online Plain ∷ []) → ⊥ }
+    ensures new_row { LocalCellsWith [] [] 2 (local_row 0 5 1 Online New ∷ []) → ⊥ }
+{}
+
+/// A mapping without a row that counts, or with two.
+pub fn refused_where_rows_do_not_fit_a_mapping()
+    ensures no_row { LocalCellsWith (free_piece 0 5 site_a Online ∷ []) [] 1 [] → ⊥ }
+    ensures old_row { LocalCellsWith (free_piece 0 5 site_a Online ∷ []) [] 2 (local_row 0 5 0 Online (Old 1) ∷ []) → ⊥ }
+    ensures two_rows { LocalCellsWith (free_piece 0 5 site_a Online ∷ []) [] 2 (local_row 0 5 0 Online Plain ∷ local_row 0 5 1 Online Plain ∷ []) → ⊥ }
+{}
+
+/// A mark of a logged operation that has no such mapping here, and a number that wasn't given.
+pub fn refused_marks()
+    ensures old { LocalCellsWith (free_piece 0 5 site_a Online ∷ []) (add_logged ∷ []) 3 (local_row 0 5 0 Online (Old 2) ∷ []) → ⊥ }
+    ensures new { LocalCellsWith [] (add_at_a ∷ []) 2 (local_row 0 5 1 Online New ∷ []) → ⊥ }
+    ensures elsewhere { LocalCellsWith [] (add_logged ∷ []) 3 (local_row 5 10 2 Online New ∷ []) → ⊥ }
+    ensures number_of_name { LocalCellsWith (free_piece 0 5 site_a Online ∷ []) [] 1 (local_row 0 5 1 Online Plain ∷ []) → ⊥ }
+    ensures number_of_mark { LocalCellsWith [] [] 1 (local_row 0 5 0 Online (Old 1) ∷ []) → ⊥ }
+{}
+
+// ---- refused: online rows
+
+/// A local row that is online and binds no span of the map, or keys that another site owns, or that nobody owns and no logged operation brings here.
+pub fn refused_online_rows()
+    ensures empty_span { OnlineRowsWith [] [] (local_row 5 5 0 Online Plain ∷ []) → ⊥ }
+    ensures elsewhere { OnlineRowsWith (free_piece 0 5 site_b Online ∷ []) [] (local_row 0 5 0 Online Plain ∷ []) → ⊥ }
+    ensures nobody { OnlineRowsWith [] [] (local_row 0 5 0 Online Plain ∷ []) → ⊥ }
+    ensures coming_but_owned { OnlineRowsWith (free_piece 0 5 site_b Online ∷ []) (add_at_a ∷ []) (local_row 0 5 1 Online New ∷ []) → ⊥ }
+    ensures coming_elsewhere { OnlineRowsWith [] (add_logged ∷ []) (local_row 5 10 2 Online New ∷ []) → ⊥ }
+{}
+
+// ---- refused: row cells
+
+/// A row without its table, or under a key that the site doesn't own and that is in no batch in progress.
+pub fn refused_row_cells()
+    ensures no_table { RowCellsWith (free_piece 0 5 site_a Online ∷ []) [] ((record (row_of 1 1) { table = map_n }, []) ∷ []) → ⊥ }
+    ensures nobody { RowCellsWith [] [] (rows_with (1 ∷ [])) → ⊥ }
+    ensures elsewhere { RowCellsWith (free_piece 0 5 site_b Online ∷ []) [] (rows_with (1 ∷ [])) → ⊥ }
+    ensures idle { RowCellsWith (free_piece 0 5 site_b Online ∷ []) (job_at 0 Idle ∷ []) (rows_with (1 ∷ [])) → ⊥ }
+    ensures before_the_batch { RowCellsWith (free_piece 0 5 site_b Online ∷ []) (job_at 3 (Moved (At (int_key 5))) ∷ []) (rows_with (1 ∷ [])) → ⊥ }
+{}
+
+/// Rows of a batch: while it is copied the target has none that the source hasn't, and once it moved the other way round.
+pub fn rows_of_a_batch()
+    ensures copied { BatchRowsWith Copying (rows_with (1 ∷ 4 ∷ 5 ∷ [])) (rows_with (2 ∷ 4 ∷ [])) }
+    ensures moved { BatchRowsWith Moved (rows_with (1 ∷ 4 ∷ [])) (rows_with (2 ∷ 4 ∷ 5 ∷ [])) }
+    ensures copied_too_many { BatchRowsWith Copying (rows_with (4 ∷ [])) (rows_with (4 ∷ 5 ∷ [])) → ⊥ }
+    ensures copied_otherwise { BatchRowsWith Copying (rows_with (4 ∷ [])) ((row_of 4 4, 1 ∷ []) ∷ []) → ⊥ }
+    ensures moved_too_few { BatchRowsWith Moved (rows_with (4 ∷ 5 ∷ [])) (rows_with (4 ∷ [])) → ⊥ }
+{}
+
+// ---- refused: suspect sites
+
+/// A local row at a suspect site that is marked or numbered, of a map that has no such shard, without a span of the map, or two that overlap.
+pub fn refused_suspect_sites()
+    ensures marked { SuspectSiteWith (shards_of ((map_m, site_b) ∷ [])) (local_row 0 5 0 Online (Old 1) ∷ []) → ⊥ }
+    ensures numbered { SuspectSiteWith (shards_of ((map_m, site_b) ∷ [])) (local_row 0 5 1 Online Plain ∷ []) → ⊥ }
+    ensures on_shards { SuspectSiteWith (shards_of ((map_m, site_a) ∷ [])) (local_row 0 5 0 Online Plain ∷ []) → ⊥ }
+    ensures empty_span { SuspectSiteWith (shards_of ((map_m, site_b) ∷ [])) (local_row 5 5 0 Online Plain ∷ []) → ⊥ }
+    ensures disjoint { SuspectSiteWith (shards_of ((map_m, site_b) ∷ [])) (local_row 0 6 0 Online Plain ∷ local_row 5 10 0 Online Plain ∷ []) → ⊥ }
 {}
