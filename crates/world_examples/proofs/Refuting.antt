@@ -1,5 +1,5 @@
 -- What stands in short tables, and what an owner or a mapping there cannot be.
-use Rattle.std.proofs.Common.{◌≡◌, Bool, true, sym, ap, ◌∙◌, subst, Some, None, Option, List, [], T, is_some}
+use Rattle.std.proofs.Common.{◌≡◌, Bool, true, sym, ap, ◌∙◌, subst, Some, None, Option, List, [], T, is_some, true≢false}
 use Rattle.std.specs.Prelude.{IsTrue}
 use Rattle.std.specs.List.{AllByRecursion, list_any}
 use Rattle.std.specs.Ordering.{nat_cmp, eq_by_cmp}
@@ -12,9 +12,13 @@ use Rattle.cell_world.specs.Orders.{pair_cmp, local_cmp, row_cmp}
 use Rattle.cell_world.specs.Keys.{contains}
 use Rattle.cell_world.specs.KeyForms.{is_normal, is_span_of}
 use Rattle.cell_world.specs.Lists.{SomeOf}
+use Rattle.cell_world.specs.ByteOrder.{byte_cmp}
+use Rattle.cell_world.specs.Plain.{is_attached}
+use Rattle.cell_world.specs.Lawful.{IsAttached}
 use Rattle.cell_world.specs.Spelled.{listed}
+use Rattle.cell_world.specs.declared.cells.Away.{Away}
 use Rattle.cell_world.specs.Stores.{piece_key, local_key}
-use Rattle.cell_world.specs.Sound.{HasPiece, HasLocal, HasLog, HasJob, HasRow, IsSpanOf, IsKeyOf, IsComing, IsBeingMoved, InBatch, batch_high, Matches, BatchAt}
+use Rattle.cell_world.specs.Sound.{HasMap, HasPiece, HasLocal, HasLog, HasJob, HasRow, IsSpanOf, IsKeyOf, IsComing, IsBeingMoved, InBatch, batch_high, Matches, BatchAt}
 use Rattle.cell_world.specs.declared.cells.KeyType.{KeyType}
 use Rattle.cell_world.specs.declared.cells.KeyType.TheVariants.{Int}
 use Rattle.cell_world.specs.declared.cells.LocalRow.{LocalRow}
@@ -31,7 +35,8 @@ use Rattle.cell_world.specs.declared.spans.Span.{Span}
 use Rattle.cell_world.specs.declared.spans.Span.TheVariants.{Range}
 use Rattle.cell_world.proofs.OrderLaws.{pairs_total, exact_text_pairs}
 use Rattle.cell_world.proofs.OwnerLaws.{owner_stands}
-use Rattle.world_examples.specs.Examples.{map_m, site_a, maps_m, keyed_pieces, mappings_of, log_of, jobs_of, locals_of, rows_of, owner_with}
+use Rattle.world_examples.specs.Examples.{map_m, site_a, maps_m, keyed_pieces, mappings_of, log_of, jobs_of, locals_of, rows_of, owner_with, away_of}
+use Rattle.world_examples.specs.Sounds.{sites_known}
 use Rattle.world_examples.proofs.Tables.{get_of}
 use Rattle.world_examples.proofs.Standing.{standing, m_stands, is_int, each_alone}
 use Rattle.world_examples.proofs.ImageParts.{numbered_ops, numbered_jobs, keyed_locals}
@@ -113,3 +118,21 @@ batch_is job low end cursor high key h =
     let from : h.0 ≡ low = cc in
     let to : h.1 ≡ end = cc in
     subst (λ l. IsTrue (contains (Range l end) key)) from (subst (λ e. IsTrue (contains (Range h.0 e) key)) to h.4)
+
+-- ---- jobs
+
+-- the key type of a job of `m` is that of the numbers, so a number is a key of it
+pub key_of_job : (type : KeyType) → HasMap maps_m map_m kind.Range type → (key : Text) → IsTrue (is_normal Int key) → IsTrue (is_normal type key)
+key_of_job type h key normal = subst (λ t. IsTrue (is_normal t key)) (sym (is_int kind.Range type h)) normal
+
+-- no mapping of the map is so
+pub no_piece : (pieces : List Piece) → T (is_sorted pair_cmp (keyed_pieces pieces)) → (Is : Piece → Type 0) → AllByRecursion (λ e. Is e.1 → ⊥) (keyed_pieces pieces) → (p : Piece) → HasPiece (mappings_of pieces) p → Is p → ⊥
+no_piece pieces sorted Is all p has is = standing exact_text_pairs (λ k q. Is q → ⊥) (keyed_pieces pieces) sorted all (piece_key p) p has is
+
+-- a site with a site state cell isn't attached
+pub not_attached : (entries : List (Text × Away)) → T (is_sorted byte_cmp entries) → (location : Text) → is_some (fin.find byte_cmp location entries) ≡ true → IsAttached sites_known (away_of entries) location → ⊥
+not_attached entries sorted location there h = by (fin.find byte_cmp location entries) (get_of byte_cmp entries sorted location) there
+  where
+    by : (o : Option Away) → fin.get (away_of entries) location ≡ o → is_some o ≡ true → ⊥
+    by None e t = true≢false (sym t)
+    by (Some a) e t = true≢false (sym h.attached ∙ ap is_attached e)

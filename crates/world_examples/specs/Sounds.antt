@@ -29,6 +29,10 @@ use Rattle.world_examples.specs.Examples.{int_key, range, site_a, site_b, free_p
 abbrev pub sites_known : List Text
 sites_known = site_a ∷ site_b ∷ []
 
+-- five bytes, which are no number: it is above the number 3, and below 4
+abbrev pub long_key : Text
+long_key = 128 ∷ 0 ∷ 0 ∷ 3 ∷ 0 ∷ []
+
 -- rows of `t` with these keys, each with its key as its number, and with nothing in them
 abbrev pub rows_with : List ℕ → List (RowName × Text)
 rows_with keys = map (λ key. (row_of key key, [])) keys
