@@ -3,6 +3,7 @@ pub mod Refusing
 pub mod AtRest
 pub mod ImageParts
 pub mod Logged
+pub mod Marking
 pub mod Moving
 pub mod Refuting
 pub mod Standing

@@ -5,3 +5,4 @@ pub mod jobs;
 pub mod lawful;
 pub mod sound;
 pub mod spans;
+pub mod stages;
