@@ -23,11 +23,12 @@ use Rattle.cell_world.specs.declared.operations.JobRow.{JobRow}
 use Rattle.cell_world.specs.declared.operations.Op.{Op}
 use Rattle.cell_world.specs.declared.operations.Piece.{Piece}
 use Rattle.cell_world.proofs.OrderLaws.{exact_text_pairs, exact_texts, exact_locals}
-use Rattle.world_examples.specs.Examples.{int_key, map_m, site_a, site_b, free_piece, local_row, maps_m, shards_ab, tables_t, keyed_pieces, mappings_of, log_of, jobs_of, away_of, owner_with}
-use Rattle.world_examples.specs.Sounds.{sites_known, pieces_at_rest, global_at_rest, a_at_rest, b_at_rest, b_to_compare, image_at_rest, image_to_compare}
+use Rattle.world_examples.proofs.Accepting.{b_not_a}
+use Rattle.world_examples.specs.Examples.{int_key, map_m, site_a, site_b, free_piece, local_row, maps_m, shards_ab, tables_t, keyed_pieces, mappings_of, log_of, jobs_of, away_of, owner_with, sites_ab}
+use Rattle.world_examples.specs.Sounds.{pieces_at_rest, global_at_rest, a_at_rest, b_at_rest, b_to_compare, image_at_rest, image_to_compare}
 use Rattle.world_examples.proofs.Tables.{get_of}
 use Rattle.world_examples.proofs.Standing.{standing, two_standing, each_site, AllTwo, OneAtAKey, m_stands, owner_there}
-use Rattle.world_examples.proofs.ImageParts.{local_cells, online_rows, row_cells, b_not_a, offline_not_online, normal_of_m, keyed_locals, global_keyed, shard_keyed, image_keyed, global_cells, a_is_shard, b_is_shard, t_is_table}
+use Rattle.world_examples.proofs.ImageParts.{local_cells, online_rows, row_cells, offline_not_online, normal_of_m, keyed_locals, global_keyed, shard_keyed, image_keyed, global_cells, a_is_shard, b_is_shard, t_is_table}
 
 abbrev low : Piece
 low = free_piece 0 5 site_a Online
@@ -110,9 +111,9 @@ rest_sound = record {
       (shard_keyed (local_row 0 5 0 Online Plain ∷ []) (1 ∷ 2 ∷ []) tt) (shard_keyed (local_row 5 10 0 Offline Plain ∷ []) (7 ∷ []) tt);
   globals = globals (away_of []);
   logged = record { lawful = λ op h. absurd (nothing_logged op h); numbered = λ op h. absurd (nothing_logged op h); hulls = λ a b h g e f. absurd (nothing_logged a h) };
-  locals = λ location h. each_site (λ l. LocalCells (mappings_of pieces_at_rest) (log_of []) 1 l (image_at_rest.at (Shard l)).locals) sites_known (a_locals, (b_locals, tt)) location h.known;
-  online = λ location h. each_site (λ l. OnlineRows maps_m (owner_with pieces_at_rest) (log_of []) l (image_at_rest.at (Shard l)).locals) sites_known (a_online, (b_online, tt)) location h.known;
-  rows = λ location h. each_site (λ l. RowCells maps_m tables_t (owner_with pieces_at_rest) (jobs_of []) l (image_at_rest.at (Shard l)).rows) sites_known (a_rows, (b_rows, tt)) location h.known;
+  locals = λ location h. each_site (λ l. LocalCells (mappings_of pieces_at_rest) (log_of []) 1 l (image_at_rest.at (Shard l)).locals) sites_ab (a_locals, (b_locals, tt)) location h.known;
+  online = λ location h. each_site (λ l. OnlineRows maps_m (owner_with pieces_at_rest) (log_of []) l (image_at_rest.at (Shard l)).locals) sites_ab (a_online, (b_online, tt)) location h.known;
+  rows = λ location h. each_site (λ l. RowCells maps_m tables_t (owner_with pieces_at_rest) (jobs_of []) l (image_at_rest.at (Shard l)).rows) sites_ab (a_rows, (b_rows, tt)) location h.known;
   batches = λ job h. absurd (no_job job h);
   suspect = λ location h. absurd (standing exact_texts (λ k x. ⊥) [] tt tt location Suspect h.1);
   jobs = λ job h. absurd (no_job job h);
@@ -128,7 +129,7 @@ b_away = away_of ((site_b, Suspect) ∷ [])
 abbrev global_to_compare : Store
 global_to_compare = record global_at_rest { away = b_away }
 
-b_not_attached : IsAttached sites_known b_away site_b → ⊥
+b_not_attached : IsAttached sites_ab b_away site_b → ⊥
 b_not_attached h = true≢false (sym h.attached ∙ ap is_attached (get_of byte_cmp ((site_b, Suspect) ∷ []) tt site_b))
 
 a_not_suspect : fin.get b_away site_a ≡ Some Suspect → ⊥
@@ -151,11 +152,11 @@ compare_sound = record {
       (shard_keyed (local_row 0 5 0 Online Plain ∷ []) (1 ∷ 2 ∷ []) tt) (shard_keyed (local_row 20 30 0 Online Plain ∷ []) (7 ∷ []) tt);
   globals = globals b_away;
   logged = record { lawful = λ op h. absurd (nothing_logged op h); numbered = λ op h. absurd (nothing_logged op h); hulls = λ a b h g e f. absurd (nothing_logged a h) };
-  locals = λ location h. each_site (λ l. IsAttached sites_known b_away l → LocalCells (mappings_of pieces_at_rest) (log_of []) 1 l (image_to_compare.at (Shard l)).locals) sites_known ((λ g. a_locals), ((λ g. absurd (b_not_attached g)), tt)) location h.known h;
-  online = λ location h. each_site (λ l. IsAttached sites_known b_away l → OnlineRows maps_m (owner_with pieces_at_rest) (log_of []) l (image_to_compare.at (Shard l)).locals) sites_known ((λ g. a_online), ((λ g. absurd (b_not_attached g)), tt)) location h.known h;
-  rows = λ location h. each_site (λ l. IsAttached sites_known b_away l → RowCells maps_m tables_t (owner_with pieces_at_rest) (jobs_of []) l (image_to_compare.at (Shard l)).rows) sites_known ((λ g. a_rows), ((λ g. absurd (b_not_attached g)), tt)) location h.known h;
+  locals = λ location h. each_site (λ l. IsAttached sites_ab b_away l → LocalCells (mappings_of pieces_at_rest) (log_of []) 1 l (image_to_compare.at (Shard l)).locals) sites_ab ((λ g. a_locals), ((λ g. absurd (b_not_attached g)), tt)) location h.known h;
+  online = λ location h. each_site (λ l. IsAttached sites_ab b_away l → OnlineRows maps_m (owner_with pieces_at_rest) (log_of []) l (image_to_compare.at (Shard l)).locals) sites_ab ((λ g. a_online), ((λ g. absurd (b_not_attached g)), tt)) location h.known h;
+  rows = λ location h. each_site (λ l. IsAttached sites_ab b_away l → RowCells maps_m tables_t (owner_with pieces_at_rest) (jobs_of []) l (image_to_compare.at (Shard l)).rows) sites_ab ((λ g. a_rows), ((λ g. absurd (b_not_attached g)), tt)) location h.known h;
   batches = λ job h. absurd (no_job job h);
-  suspect = λ location h. each_site (λ l. fin.get b_away l ≡ Some Suspect → SuspectSite maps_m shards_ab l (image_to_compare.at (Shard l)).locals) sites_known ((λ g. absurd (a_not_suspect g)), ((λ g. b_suspect), tt)) location h.0 h.1;
+  suspect = λ location h. each_site (λ l. fin.get b_away l ≡ Some Suspect → SuspectSite maps_m shards_ab l (image_to_compare.at (Shard l)).locals) sites_ab ((λ g. absurd (a_not_suspect g)), ((λ g. b_suspect), tt)) location h.0 h.1;
   jobs = λ job h. absurd (no_job job h);
   progress = λ job h. absurd (no_job job h);
   tokens = no_tokens;

@@ -1,5 +1,5 @@
 -- What all the images of the examples have in common: `m` with its shards and its table, and each cell under its own key.
-use Rattle.std.proofs.Common.{◌≡◌, ℕ, ◌≤◌, ◌<◌, ◌^◌, ◌⊎◌, Bool, true, false, true≢false, refl, ap, subst, sym, None, Option, List, [], ◌∷◌, cond, map, T, is_some}
+use Rattle.std.proofs.Common.{◌≡◌, ℕ, ◌≤◌, ◌<◌, ◌^◌, ◌⊎◌, Bool, true, false, refl, ap, subst, None, Option, List, [], ◌∷◌, cond, map, T, is_some}
 use Rattle.std.specs.Prelude.{IsTrue, IsSome}
 use Rattle.std.specs.List.{AllByRecursion}
 use Rattle.std.specs.Ordering.{nat_cmp}
@@ -8,13 +8,11 @@ use Rattle.std.specs.FinMap.{is_sorted}
 use Rattle.std.specs.FinSet as set
 use Rattle.std.proofs.lemmas.Map.Lookups.{exact_unsigned}
 use Rattle.cell_world.specs.Texts.{Text}
-use Rattle.cell_world.specs.ByteOrder.{byte_cmp}
 use Rattle.cell_world.specs.Orders.{pair_cmp, local_cmp, row_cmp}
 use Rattle.cell_world.specs.Keys.{same, contains, low_of}
 use Rattle.cell_world.specs.KeyForms.{is_normal}
 use Rattle.cell_world.specs.Stores.{Store, AwaySites, Log, IsKeyed, empty_store, piece_key, local_key}
 use Rattle.cell_world.specs.Images.{Place, Global, Shard}
-use Rattle.cell_world.specs.Plain.{is_attached}
 use Rattle.cell_world.specs.Meaning.{counters_of, counts}
 use Rattle.cell_world.specs.Lawful.{IsAttached}
 use Rattle.cell_world.specs.Sound.{HasPiece, HasLocal, HasShard, HasTable, IsSpanOf, IsKeyOf, IsOwnedBy, IsComing, IsBeingMoved, IsMarked, Matches, mark_below, GlobalCells, LocalCells, OnlineRows, RowCells}
@@ -27,9 +25,9 @@ use Rattle.cell_world.specs.declared.operations.Op.{Op}
 use Rattle.cell_world.specs.declared.operations.Piece.{Piece}
 use Rattle.cell_world.proofs.OrderLaws.{pairs_total, exact_text_pairs, exact_locals, exact_rows}
 use Rattle.cell_world.proofs.KeyedLaws.{keyed_empty}
-use Rattle.world_examples.specs.Examples.{map_m, table_t, site_a, site_b, maps_m, shards_ab, tables_t, keyed_pieces, mappings_of, log_of, jobs_of, locals_of, rows_of, away_of, owner_with}
-use Rattle.world_examples.specs.Sounds.{sites_known, global_with, shard_with, image_with, rows_with}
-use Rattle.world_examples.proofs.Tables.{get_of}
+use Rattle.world_examples.proofs.Accepting.{is_here}
+use Rattle.world_examples.specs.Examples.{map_m, table_t, site_a, site_b, maps_m, shards_ab, tables_t, keyed_pieces, mappings_of, log_of, jobs_of, locals_of, rows_of, away_of, owner_with, sites_ab, keyed_jobs, pairs_ab}
+use Rattle.world_examples.specs.Sounds.{global_with, shard_with, image_with, rows_with}
 use Rattle.world_examples.proofs.Standing.{standing, keys_standing, two_standing, members, each_keyed, m_stands, is_int, AllTwo, OneAtAKey, all_disjoint}
 
 -- ---- the entries behind the tables
@@ -37,22 +35,16 @@ use Rattle.world_examples.proofs.Standing.{standing, keys_standing, two_standing
 abbrev pub numbered_ops : List Op → List (ℕ × Op)
 numbered_ops ops = map (λ op. (op.number, op)) ops
 
-abbrev pub numbered_jobs : List JobRow → List (ℕ × JobRow)
-numbered_jobs jobs = map (λ job. (job.number, job)) jobs
-
 abbrev pub keyed_locals : List LocalRow → List ((Text × (Text × ℕ)) × LocalRow)
 keyed_locals rows = map (λ row. (local_key row, row)) rows
 
 -- ---- the map, its shards and its table
 
-abbrev pub pairs_of_shards : List (Text × Text)
-pairs_of_shards = (map_m, site_a) ∷ (map_m, site_b) ∷ []
-
 pub a_is_shard : HasShard shards_ab map_m site_a
-a_is_shard = set.contains-from_list pairs_total pairs_of_shards (map_m, site_a)
+a_is_shard = set.contains-from_list pairs_total pairs_ab (map_m, site_a)
 
 pub b_is_shard : HasShard shards_ab map_m site_b
-b_is_shard = set.contains-from_list pairs_total pairs_of_shards (map_m, site_b)
+b_is_shard = set.contains-from_list pairs_total pairs_ab (map_m, site_b)
 
 pub t_is_table : HasTable tables_t map_m table_t
 t_is_table = set.contains-from_list pairs_total ((map_m, table_t) ∷ []) (map_m, table_t)
@@ -66,22 +58,19 @@ normal_of_m key h = subst (λ type. IsTrue (is_normal type key)) (is_int h.0 h.1
 
 -- ---- sites
 
-pub b_not_a : site_b ≡ site_a → ⊥
-b_not_a e = true≢false (sym (ap (λ location. same location site_a) e))
-
 pub offline_not_online : Offline ≡ Online → ⊥
 offline_not_online e = cc
 
-pub a_attached : IsAttached sites_known (away_of []) site_a
-a_attached = record { known = refl; attached = ap is_attached (get_of byte_cmp [] tt site_a) }
+pub a_attached : IsAttached sites_ab (away_of []) site_a
+a_attached = is_here site_a refl
 
-pub b_attached : IsAttached sites_known (away_of []) site_b
-b_attached = record { known = refl; attached = ap is_attached (get_of byte_cmp [] tt site_b) }
+pub b_attached : IsAttached sites_ab (away_of []) site_b
+b_attached = is_here site_b refl
 
 -- ---- each cell under its own key
 
 pub global_keyed : (pieces : List Piece) (ops : List Op) (jobs : List JobRow) (counter : Option Counters) (away : AwaySites)
-    → T (is_sorted pair_cmp (keyed_pieces pieces)) → T (is_sorted nat_cmp (numbered_ops ops)) → T (is_sorted nat_cmp (numbered_jobs jobs))
+    → T (is_sorted pair_cmp (keyed_pieces pieces)) → T (is_sorted nat_cmp (numbered_ops ops)) → T (is_sorted nat_cmp (keyed_jobs jobs))
     → IsKeyed (record (global_with pieces ops jobs counter) { away = away })
 global_keyed pieces ops jobs counter away f g h = record {
   mappings = each_keyed exact_text_pairs piece_key pieces f;
@@ -109,7 +98,7 @@ pub global_cells : (pieces : List Piece) (ops : List Op) (jobs : List JobRow) (c
     → AllByRecursion (λ e. IsSpanOf maps_m e.1.map e.1.span) (keyed_pieces pieces) → AllByRecursion (λ e. HasShard shards_ab e.1.map e.1.location) (keyed_pieces pieces)
     → AllTwo (λ d e. OneAtAKey d.1 e.1) (keyed_pieces pieces) → GlobalCells (record (global_with pieces ops jobs counter) { away = away })
 global_cells pieces ops jobs counter away sorted operations job spans on_shards disjoint = record {
-  shards = λ name location. members pairs_total exact_text_pairs (λ k. IsSome (fin.get maps_m k.0)) pairs_of_shards (some_m, (some_m, tt)) (name, location);
+  shards = λ name location. members pairs_total exact_text_pairs (λ k. IsSome (fin.get maps_m k.0)) pairs_ab (some_m, (some_m, tt)) (name, location);
   tables = λ name table. members pairs_total exact_text_pairs (λ k. IsSome (fin.get maps_m k.0)) ((map_m, table_t) ∷ []) (some_m, tt) (name, table);
   operations = operations;
   jobs = job;

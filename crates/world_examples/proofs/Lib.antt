@@ -1,10 +1,10 @@
 pub mod Accepting
-pub mod Refusing
 pub mod AtRest
 pub mod ImageParts
 pub mod Logged
 pub mod Marking
 pub mod Moving
+pub mod Refusing
 pub mod Refuting
 pub mod Standing
 pub mod Tables

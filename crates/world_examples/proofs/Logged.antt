@@ -26,11 +26,12 @@ use Rattle.cell_world.specs.declared.operations.JobRow.{JobRow}
 use Rattle.cell_world.specs.declared.operations.Op.{Op}
 use Rattle.cell_world.specs.declared.operations.Piece.{Piece}
 use Rattle.cell_world.proofs.OrderLaws.{exact_text_pairs, exact_texts}
-use Rattle.world_examples.specs.Examples.{int_key, range, map_m, site_a, site_b, free_piece, local_row, maps_m, tables_t, keyed_pieces, mappings_of, log_of, jobs_of, away_of, owner_with}
-use Rattle.world_examples.specs.Sounds.{sites_known, pieces_logged, offline_logged, add_logged, global_logged, a_logged, b_logged, image_logged}
+use Rattle.world_examples.proofs.Accepting.{b_not_a}
+use Rattle.world_examples.specs.Examples.{int_key, range, map_m, site_a, site_b, free_piece, local_row, maps_m, tables_t, keyed_pieces, mappings_of, log_of, jobs_of, away_of, owner_with, sites_ab}
+use Rattle.world_examples.specs.Sounds.{pieces_logged, offline_logged, add_logged, global_logged, a_logged, b_logged, image_logged}
 use Rattle.world_examples.proofs.Tables.{get_of}
 use Rattle.world_examples.proofs.Standing.{standing, two_standing, each_site, AllTwo, OneAtAKey, m_stands, owner_there, nobody_there, not_both}
-use Rattle.world_examples.proofs.ImageParts.{local_cells, online_rows, row_cells, b_not_a, offline_not_online, normal_of_m, numbered_ops, some_m, keyed_locals, global_keyed, shard_keyed, image_keyed, global_cells, a_is_shard, b_is_shard, t_is_table, a_attached, b_attached}
+use Rattle.world_examples.proofs.ImageParts.{local_cells, online_rows, row_cells, offline_not_online, normal_of_m, numbered_ops, some_m, keyed_locals, global_keyed, shard_keyed, image_keyed, global_cells, a_is_shard, b_is_shard, t_is_table, a_attached, b_attached}
 
 abbrev standing_piece : Piece
 standing_piece = free_piece 0 5 site_a Online
@@ -196,9 +197,9 @@ logged_sound = record {
       (shard_keyed rows_at_a (1 ∷ 2 ∷ []) tt) (shard_keyed (added_row ∷ []) [] tt);
   globals = globals;
   logged = logged;
-  locals = λ location h. each_site (λ l. LocalCells (mappings_of pieces_logged) log 3 l (image_logged.at (Shard l)).locals) sites_known (a_locals, (b_locals, tt)) location h.known;
-  online = λ location h. each_site (λ l. OnlineRows maps_m (owner_with pieces_logged) log l (image_logged.at (Shard l)).locals) sites_known (a_online, (b_online, tt)) location h.known;
-  rows = λ location h. each_site (λ l. RowCells maps_m tables_t (owner_with pieces_logged) (jobs_of []) l (image_logged.at (Shard l)).rows) sites_known (a_rows, (b_rows, tt)) location h.known;
+  locals = λ location h. each_site (λ l. LocalCells (mappings_of pieces_logged) log 3 l (image_logged.at (Shard l)).locals) sites_ab (a_locals, (b_locals, tt)) location h.known;
+  online = λ location h. each_site (λ l. OnlineRows maps_m (owner_with pieces_logged) log l (image_logged.at (Shard l)).locals) sites_ab (a_online, (b_online, tt)) location h.known;
+  rows = λ location h. each_site (λ l. RowCells maps_m tables_t (owner_with pieces_logged) (jobs_of []) l (image_logged.at (Shard l)).rows) sites_ab (a_rows, (b_rows, tt)) location h.known;
   batches = λ job h. absurd (nobody_moves job h);
   suspect = λ location h. absurd (standing exact_texts (λ k x. ⊥) [] tt tt location Suspect h.1);
   jobs = λ job h. absurd (nobody_moves job h);

@@ -1,5 +1,5 @@
 -- Marks in short tables of local rows.
-use Rattle.std.proofs.Common.{◌≡◌, ◌≢◌, ℕ, Bool, true, false, true≢false, cond, refl, sym, ap, ◌∙◌, subst, Some, None, List, [], ◌∷◌, T, is_some}
+use Rattle.std.proofs.Common.{◌≡◌, ◌≢◌, ℕ, Bool, true, false, refl, sym, ap, Some, None, List, [], ◌∷◌, T, is_some}
 use Rattle.std.specs.Prelude.{IsTrue}
 use Rattle.std.specs.List.{AllByRecursion}
 use Rattle.std.specs.Ordering.{nat_cmp}
@@ -18,11 +18,12 @@ use Rattle.cell_world.specs.declared.cells.Status.TheVariants.{Offline}
 use Rattle.cell_world.specs.declared.operations.Op.{Op}
 use Rattle.cell_world.specs.declared.operations.Piece.{Piece}
 use Rattle.cell_world.proofs.OrderLaws.{exact_locals}
+use Rattle.world_examples.proofs.Accepting.{b_not_a}
 use Rattle.world_examples.specs.Examples.{map_m, site_a, site_b, range, local_row, log_of, locals_of}
 use Rattle.world_examples.specs.Sounds.{move_logged}
 use Rattle.world_examples.proofs.Tables.{get_of}
 use Rattle.world_examples.proofs.Standing.{standing}
-use Rattle.world_examples.proofs.ImageParts.{numbered_ops, keyed_locals, b_not_a}
+use Rattle.world_examples.proofs.ImageParts.{numbered_ops, keyed_locals}
 use Rattle.world_examples.proofs.Refuting.{local_in, op_in}
 
 -- the operation of this number is in the log, or it isn't

@@ -25,11 +25,12 @@ use Rattle.cell_world.specs.declared.spans.High.TheVariants.{At}
 use Rattle.cell_world.specs.declared.spans.Span.TheVariants.{Range}
 use Rattle.cell_world.proofs.OrderLaws.{exact_text_pairs, exact_texts, exact_rows}
 use Rattle.cell_world.proofs.SpanLaws.{not_true, same_self}
-use Rattle.world_examples.specs.Examples.{int_key, range, map_m, site_a, site_b, job_piece, local_row, maps_m, shards_ab, tables_t, keyed_pieces, mappings_of, log_of, jobs_of, away_of, owner_with}
-use Rattle.world_examples.specs.Sounds.{sites_known, rows_with, pieces_moving, job_moving, global_moving, a_moving, b_moving, image_moving}
+use Rattle.world_examples.proofs.Accepting.{b_not_a}
+use Rattle.world_examples.specs.Examples.{int_key, range, map_m, site_a, site_b, job_piece, local_row, maps_m, shards_ab, tables_t, keyed_pieces, mappings_of, log_of, jobs_of, away_of, owner_with, sites_ab, keyed_jobs}
+use Rattle.world_examples.specs.Sounds.{rows_with, pieces_moving, job_moving, global_moving, a_moving, b_moving, image_moving}
 use Rattle.world_examples.proofs.Tables.{get_of}
 use Rattle.world_examples.proofs.Standing.{standing, each_site, AllTwo, OneAtAKey, m_stands, owner_there, cut, not_both}
-use Rattle.world_examples.proofs.ImageParts.{local_cells, online_rows, row_cells, b_not_a, offline_not_online, normal_of_m, numbered_jobs, keyed_locals, global_keyed, shard_keyed, image_keyed, global_cells, a_is_shard, b_is_shard, t_is_table, a_attached, b_attached}
+use Rattle.world_examples.proofs.ImageParts.{local_cells, online_rows, row_cells, offline_not_online, normal_of_m, keyed_locals, global_keyed, shard_keyed, image_keyed, global_cells, a_is_shard, b_is_shard, t_is_table, a_attached, b_attached}
 
 abbrev moved : Piece
 moved = job_piece 0 3 site_b Online
@@ -50,7 +51,7 @@ rest_stands : HasPiece (mappings_of pieces_moving) rest
 rest_stands = get_of pair_cmp (keyed_pieces pieces_moving) tt (piece_key rest)
 
 job_stands : HasJob (jobs_of (job_moving ∷ [])) job_moving
-job_stands = get_of nat_cmp (numbered_jobs (job_moving ∷ [])) tt 1
+job_stands = get_of nat_cmp (keyed_jobs (job_moving ∷ [])) tt 1
 
 apart : AllTwo (λ d e. OneAtAKey d.1 e.1) (keyed_pieces pieces_moving)
 apart = (
@@ -100,7 +101,7 @@ job_cells = record {
     from_end : (key : Text) → IsTrue (contains (range 0 10) key) → IsTrue (not (before key (At (int_key 6)))) → IsTrue (contains (range 6 10) key)
     from_end key h g = ⊎_elim (λ f. absurd (not_both (before key (At (int_key 6))) (not_true _ g) (and_parts _ _ f).1)) (λ f. f) (cut (int_key 0) (int_key 6) (At (int_key 10)) key h)
 
-progress : IsBatch sites_known (away_of []) (mappings_of pieces_moving) job_moving job_moving.phase
+progress : IsBatch sites_ab (away_of []) (mappings_of pieces_moving) job_moving job_moving.phase
 progress = (
   record {
     above = refl;
@@ -212,12 +213,12 @@ moving_sound = record {
       (shard_keyed rows_at_a (4 ∷ 5 ∷ 7 ∷ []) tt) (shard_keyed (b_row ∷ []) (1 ∷ 2 ∷ 4 ∷ []) tt);
   globals = globals;
   logged = record { lawful = λ op h. absurd (nothing_logged op h); numbered = λ op h. absurd (nothing_logged op h); hulls = λ a b h g e f. absurd (nothing_logged a h) };
-  locals = λ location h. each_site (λ l. LocalCells (mappings_of pieces_moving) (log_of []) 1 l (image_moving.at (Shard l)).locals) sites_known (a_locals, (b_locals, tt)) location h.known;
-  online = λ location h. each_site (λ l. OnlineRows maps_m (owner_with pieces_moving) (log_of []) l (image_moving.at (Shard l)).locals) sites_known (a_online, (b_online, tt)) location h.known;
-  rows = λ location h. each_site (λ l. RowCells maps_m tables_t (owner_with pieces_moving) (jobs_of (job_moving ∷ [])) l (image_moving.at (Shard l)).rows) sites_known (a_rows, (b_rows, tt)) location h.known;
-  batches = λ job. standing exact_unsigned (λ k job. BatchRows job job.phase (image_moving.at (Shard job.source)).rows (image_moving.at (Shard job.target)).rows) (numbered_jobs (job_moving ∷ [])) tt (batches, tt) job.number job;
+  locals = λ location h. each_site (λ l. LocalCells (mappings_of pieces_moving) (log_of []) 1 l (image_moving.at (Shard l)).locals) sites_ab (a_locals, (b_locals, tt)) location h.known;
+  online = λ location h. each_site (λ l. OnlineRows maps_m (owner_with pieces_moving) (log_of []) l (image_moving.at (Shard l)).locals) sites_ab (a_online, (b_online, tt)) location h.known;
+  rows = λ location h. each_site (λ l. RowCells maps_m tables_t (owner_with pieces_moving) (jobs_of (job_moving ∷ [])) l (image_moving.at (Shard l)).rows) sites_ab (a_rows, (b_rows, tt)) location h.known;
+  batches = λ job. standing exact_unsigned (λ k job. BatchRows job job.phase (image_moving.at (Shard job.source)).rows (image_moving.at (Shard job.target)).rows) (keyed_jobs (job_moving ∷ [])) tt (batches, tt) job.number job;
   suspect = λ location h. absurd (standing exact_texts (λ k x. ⊥) [] tt tt location Suspect h.1);
-  jobs = λ job. standing exact_unsigned (λ k job. JobCells maps_m shards_ab (mappings_of pieces_moving) 2 job) (numbered_jobs (job_moving ∷ [])) tt (job_cells, tt) job.number job;
-  progress = λ job. standing exact_unsigned (λ k job. IsBatch sites_known (away_of []) (mappings_of pieces_moving) job job.phase) (numbered_jobs (job_moving ∷ [])) tt (progress, tt) job.number job;
+  jobs = λ job. standing exact_unsigned (λ k job. JobCells maps_m shards_ab (mappings_of pieces_moving) 2 job) (keyed_jobs (job_moving ∷ [])) tt (job_cells, tt) job.number job;
+  progress = λ job. standing exact_unsigned (λ k job. IsBatch sites_ab (away_of []) (mappings_of pieces_moving) job job.phase) (keyed_jobs (job_moving ∷ [])) tt (progress, tt) job.number job;
   tokens = tokens;
 }

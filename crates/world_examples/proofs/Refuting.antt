@@ -35,11 +35,10 @@ use Rattle.cell_world.specs.declared.spans.Span.{Span}
 use Rattle.cell_world.specs.declared.spans.Span.TheVariants.{Range}
 use Rattle.cell_world.proofs.OrderLaws.{pairs_total, exact_text_pairs}
 use Rattle.cell_world.proofs.OwnerLaws.{owner_stands}
-use Rattle.world_examples.specs.Examples.{map_m, site_a, maps_m, keyed_pieces, mappings_of, log_of, jobs_of, locals_of, rows_of, owner_with, away_of}
-use Rattle.world_examples.specs.Sounds.{sites_known}
+use Rattle.world_examples.specs.Examples.{map_m, site_a, maps_m, keyed_pieces, mappings_of, log_of, jobs_of, locals_of, rows_of, owner_with, away_of, sites_ab, keyed_jobs}
 use Rattle.world_examples.proofs.Tables.{get_of}
 use Rattle.world_examples.proofs.Standing.{standing, m_stands, is_int, each_alone}
-use Rattle.world_examples.proofs.ImageParts.{numbered_ops, numbered_jobs, keyed_locals}
+use Rattle.world_examples.proofs.ImageParts.{numbered_ops, keyed_locals}
 
 -- ---- what stands
 
@@ -52,8 +51,8 @@ local_in rows sorted row e = get_of local_cmp (keyed_locals rows) sorted (local_
 pub op_in : (ops : List Op) → T (is_sorted nat_cmp (numbered_ops ops)) → (op : Op) → fin.find nat_cmp op.number (numbered_ops ops) ≡ Some op → HasLog (log_of ops) op
 op_in ops sorted op e = get_of nat_cmp (numbered_ops ops) sorted op.number ∙ e
 
-pub job_in : (jobs : List JobRow) → T (is_sorted nat_cmp (numbered_jobs jobs)) → (job : JobRow) → fin.find nat_cmp job.number (numbered_jobs jobs) ≡ Some job → HasJob (jobs_of jobs) job
-job_in jobs sorted job e = get_of nat_cmp (numbered_jobs jobs) sorted job.number ∙ e
+pub job_in : (jobs : List JobRow) → T (is_sorted nat_cmp (keyed_jobs jobs)) → (job : JobRow) → fin.find nat_cmp job.number (keyed_jobs jobs) ≡ Some job → HasJob (jobs_of jobs) job
+job_in jobs sorted job e = get_of nat_cmp (keyed_jobs jobs) sorted job.number ∙ e
 
 pub row_in : (entries : List (RowName × Text)) → T (is_sorted row_cmp entries) → (row : RowName) → is_some (fin.find row_cmp row entries) ≡ true → HasRow (rows_of entries) row
 row_in entries sorted row e = ap is_some (get_of row_cmp entries sorted row) ∙ e
@@ -107,8 +106,8 @@ module _ (pieces : List Piece) (sorted : T (is_sorted pair_cmp (keyed_pieces pie
       h.of_map (subst (λ l. h.piece.span ≡ Range l end) is h.span) h.offline h.at_site
 
 -- the row is in no batch in progress
-pub not_moved : (jobs : List JobRow) → T (is_sorted nat_cmp (numbered_jobs jobs)) → (name key location : Text) → AllByRecursion (λ e. InBatch e.1 key → ⊥) (numbered_jobs jobs) → IsBeingMoved maps_m (jobs_of jobs) name key location → ⊥
-not_moved jobs sorted name key location all h = standing exact_unsigned (λ k job. InBatch job key → ⊥) (numbered_jobs jobs) sorted all h.job.number h.job h.stands h.in_batch
+pub not_moved : (jobs : List JobRow) → T (is_sorted nat_cmp (keyed_jobs jobs)) → (name key location : Text) → AllByRecursion (λ e. InBatch e.1 key → ⊥) (keyed_jobs jobs) → IsBeingMoved maps_m (jobs_of jobs) name key location → ⊥
+not_moved jobs sorted name key location all h = standing exact_unsigned (λ k job. InBatch job key → ⊥) (keyed_jobs jobs) sorted all h.job.number h.job h.stands h.in_batch
 
 -- the keys of a batch are those from its cursor up to its end
 pub batch_is : (job : JobRow) (low : Text) (end : High) → job.cursor ≡ At low → batch_high job.phase ≡ Some end → (key : Text) → InBatch job key → IsTrue (contains (Range low end) key)
@@ -130,7 +129,7 @@ pub no_piece : (pieces : List Piece) → T (is_sorted pair_cmp (keyed_pieces pie
 no_piece pieces sorted Is all p has is = standing exact_text_pairs (λ k q. Is q → ⊥) (keyed_pieces pieces) sorted all (piece_key p) p has is
 
 -- a site with a site state cell isn't attached
-pub not_attached : (entries : List (Text × Away)) → T (is_sorted byte_cmp entries) → (location : Text) → is_some (fin.find byte_cmp location entries) ≡ true → IsAttached sites_known (away_of entries) location → ⊥
+pub not_attached : (entries : List (Text × Away)) → T (is_sorted byte_cmp entries) → (location : Text) → is_some (fin.find byte_cmp location entries) ≡ true → IsAttached sites_ab (away_of entries) location → ⊥
 not_attached entries sorted location there h = by (fin.find byte_cmp location entries) (get_of byte_cmp entries sorted location) there
   where
     by : (o : Option Away) → fin.get (away_of entries) location ≡ o → is_some o ≡ true → ⊥

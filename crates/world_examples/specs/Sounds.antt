@@ -4,7 +4,6 @@ use Rattle.cell_world.specs.Texts.{Text}
 use Rattle.cell_world.specs.Keys.{same}
 use Rattle.cell_world.specs.Stores.{Store, Shards, AwaySites, empty_store}
 use Rattle.cell_world.specs.Images.{Image, Place, Global, Shard}
-use Rattle.cell_world.specs.Lawful.{ReadTables}
 use Rattle.cell_world.specs.Marked.{MarkTables}
 use Rattle.cell_world.specs.Sound.{LogCells, LocalCells, OnlineRows, RowCells, BatchRows, SuspectSite, JobCells, IsBatch, IsCutOff, JobTokens}
 use Rattle.cell_world.specs.declared.cells.Away.TheVariants.{Suspect}
@@ -13,7 +12,6 @@ use Rattle.cell_world.specs.declared.cells.LocalRow.{LocalRow}
 use Rattle.cell_world.specs.declared.cells.Mark.TheVariants.{Plain, Old, New}
 use Rattle.cell_world.specs.declared.cells.RowName.{RowName}
 use Rattle.cell_world.specs.declared.cells.Status.TheVariants.{Online, Offline}
-use Rattle.cell_world.specs.declared.operations.Extra.TheVariants as extra
 use Rattle.cell_world.specs.declared.operations.JobRow.{JobRow}
 use Rattle.cell_world.specs.declared.operations.Op.{Op}
 use Rattle.cell_world.specs.declared.operations.Phase.{Phase}
@@ -21,13 +19,9 @@ use Rattle.cell_world.specs.declared.operations.Phase.TheVariants.{Copying}
 use Rattle.cell_world.specs.declared.operations.Piece.{Piece}
 use Rattle.cell_world.specs.declared.spans.High.{High}
 use Rattle.cell_world.specs.declared.spans.High.TheVariants.{At}
-use Rattle.world_examples.specs.Examples.{int_key, range, site_a, site_b, free_piece, job_piece, job_at, local_row, row_of, no_pieces, one_piece, op_on, maps_m, shards_ab, tables_t, mappings_of, log_of, jobs_of, away_of, locals_of, rows_of, owner_with}
+use Rattle.world_examples.specs.Examples.{int_key, site_a, site_b, free_piece, job_piece, job_at, local_row, row_of, maps_m, shards_ab, tables_t, mappings_of, log_of, jobs_of, away_of, locals_of, rows_of, owner_with, sites_ab, reading, change_of, add_of}
 
 -- ---- stores and images
-
--- the two locations of the world
-abbrev pub sites_known : List Text
-sites_known = site_a ∷ site_b ∷ []
 
 -- five bytes, which are no number: it is above the number 3, and below 4
 abbrev pub long_key : Text
@@ -51,7 +45,7 @@ stores_at all a b (Shard location) = if same location site_a then a else if same
 
 -- the global store, that of `s/a` and that of `s/b`
 abbrev pub image_with : Store → Store → Store → Image
-image_with all a b = record { locations = sites_known; at = stores_at all a b }
+image_with all a b = record { locations = sites_ab; at = stores_at all a b }
 
 -- ---- an image at rest: [0, 5) is online at `s/a`, [5, 10) offline at `s/b`
 
@@ -103,10 +97,10 @@ abbrev pub pieces_logged : List Piece
 pieces_logged = free_piece 0 5 site_a Online ∷ []
 
 abbrev pub offline_logged : Op
-offline_logged = op_on 1 (range 0 5) (one_piece (free_piece 0 5 site_a Online)) (one_piece (free_piece 0 5 site_a Offline)) extra.None
+offline_logged = change_of (free_piece 0 5 site_a Online) (free_piece 0 5 site_a Offline)
 
 abbrev pub add_logged : Op
-add_logged = op_on 2 (range 5 10) no_pieces (one_piece (free_piece 5 10 site_b Online)) extra.None
+add_logged = record (add_of (free_piece 5 10 site_b Online)) { number = 2 }
 
 abbrev pub global_logged : Store
 global_logged = global_with pieces_logged (offline_logged ∷ add_logged ∷ []) [] (Some (record { operation = 3; job = 1 }))
@@ -122,13 +116,9 @@ image_logged = image_with global_logged a_logged b_logged
 
 -- ---- the parts of sound, over short lists
 
--- the tables of the global store that a lawful operation reads, where no shard has a row
-abbrev pub tables_with : List Piece → ReadTables
-tables_with pieces = record { locations = sites_known; maps = maps_m; shards = shards_ab; mappings = mappings_of pieces; jobs = jobs_of []; away = away_of []; rows_at = λ location. rows_of [] }
-
 -- the log cells, where these mappings stand and the next operation has this number
 abbrev pub LogCellsWith : List Piece → List Op → ℕ → Type 0
-LogCellsWith pieces ops next = LogCells (tables_with pieces) (log_of ops) next
+LogCellsWith pieces ops next = LogCells (reading pieces [] [] []) (log_of ops) next
 
 -- the local cells of `s/a`
 abbrev pub LocalCellsWith : List Piece → List Op → ℕ → List LocalRow → Type 0
@@ -156,7 +146,7 @@ JobCellsWith pieces job = JobCells maps_m shards_ab (mappings_of pieces) 2 job
 
 -- the batch of a job
 abbrev pub IsBatchWith : AwaySites → List Piece → JobRow → Type 0
-IsBatchWith away pieces job = IsBatch sites_known away (mappings_of pieces) job job.phase
+IsBatchWith away pieces job = IsBatch sites_ab away (mappings_of pieces) job job.phase
 
 abbrev pub IsCutOffWith : List Piece → JobRow → Type 0
 IsCutOffWith pieces job = IsCutOff (mappings_of pieces) job
@@ -167,12 +157,12 @@ JobTokensWith pieces jobs = JobTokens (mappings_of pieces) (jobs_of jobs)
 -- ---- stages: [0, 5) moves from `s/a` to `s/b`
 
 abbrev pub move_logged : Op
-move_logged = op_on 1 (range 0 5) (one_piece (free_piece 0 5 site_a Offline)) (one_piece (free_piece 0 5 site_b Offline)) extra.None
+move_logged = change_of (free_piece 0 5 site_a Offline) (free_piece 0 5 site_b Offline)
 
 -- the logged operations, the next number, and the local rows of `s/a` and of `s/b`
 abbrev pub marks_with : List Op → ℕ → List LocalRow → List LocalRow → MarkTables
 marks_with ops next a b = record {
-  locations = sites_known;
+  locations = sites_ab;
   away = away_of [];
   log = log_of ops;
   next = next;

@@ -2,10 +2,10 @@ use Rattle.std.proofs.Common.{false, true≢false, refl, sym, ap, List, [], ◌�
 use Rattle.cell_world.specs.declared.cells.Status.TheVariants.{Online, Offline}
 use Rattle.cell_world.specs.declared.operations.Piece.{Piece}
 use Rattle.cell_world.specs.declared.spans.Span.TheVariants.{Point}
+use Rattle.world_examples.proofs.Accepting.{b_not_a}
 use Rattle.world_examples.specs.Examples.{int_key, range, map_m, site_a, site_b, free_piece}
 use Rattle.world_examples.specs.Sounds.{pieces_at_rest}
 use Rattle.world_examples.proofs.Standing.{not_both}
-use Rattle.world_examples.proofs.ImageParts.{b_not_a}
 use Rattle.world_examples.proofs.Refuting.{piece_in, set_has, span_of_m}
 use Rattle.world_examples.proofs.sound.refused_mappings.Goals as goal
 

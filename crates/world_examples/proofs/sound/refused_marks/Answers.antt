@@ -2,9 +2,9 @@ use Rattle.std.proofs.Common.{◌<◌, true≢false, refl, sym, ap, [], ◌∷�
 use Rattle.cell_world.specs.Keys.{contains}
 use Rattle.cell_world.specs.declared.cells.Mark.TheVariants.{Plain, Old, New}
 use Rattle.cell_world.specs.declared.cells.Status.TheVariants.{Online}
+use Rattle.world_examples.proofs.Accepting.{b_not_a}
 use Rattle.world_examples.specs.Examples.{int_key, local_row, add_at_a}
 use Rattle.world_examples.specs.Sounds.{add_logged}
-use Rattle.world_examples.proofs.ImageParts.{b_not_a}
 use Rattle.world_examples.proofs.Refuting.{local_in, op_in}
 use Rattle.world_examples.proofs.sound.refused_marks.Goals as goal
 

@@ -1,10 +1,10 @@
 use Rattle.std.proofs.Common.{◌≡◌, true≢false, refl, sym, ap, [], ◌∷◌, is_some, ⊎_elim}
 use Rattle.cell_world.specs.declared.cells.Mark.TheVariants.{Plain, New}
 use Rattle.cell_world.specs.declared.cells.Status.TheVariants.{Online}
+use Rattle.world_examples.proofs.Accepting.{b_not_a}
 use Rattle.world_examples.specs.Examples.{int_key, range, map_m, site_a, site_b, free_piece, local_row}
 use Rattle.world_examples.specs.Sounds.{add_logged}
 use Rattle.world_examples.proofs.Standing.{not_both, owner_there}
-use Rattle.world_examples.proofs.ImageParts.{b_not_a}
 use Rattle.world_examples.proofs.Refuting.{local_in, span_of_m, key_of_m, nothing_comes, not_coming, no_owner}
 use Rattle.world_examples.proofs.sound.refused_online_rows.Goals as goal
 

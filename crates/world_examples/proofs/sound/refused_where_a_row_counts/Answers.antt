@@ -4,9 +4,10 @@ use Rattle.cell_world.specs.Keys.{contains}
 use Rattle.cell_world.specs.declared.cells.LocalRow.{LocalRow}
 use Rattle.cell_world.specs.declared.cells.Mark.TheVariants.{Plain, New}
 use Rattle.cell_world.specs.declared.cells.Status.TheVariants.{Online, Offline}
+use Rattle.world_examples.proofs.Accepting.{b_not_a}
 use Rattle.world_examples.specs.Examples.{int_key, site_a, site_b, free_piece, local_row}
 use Rattle.world_examples.proofs.Tables.{get_of}
-use Rattle.world_examples.proofs.ImageParts.{numbered_ops, b_not_a, offline_not_online}
+use Rattle.world_examples.proofs.ImageParts.{numbered_ops, offline_not_online}
 use Rattle.world_examples.proofs.Refuting.{local_in, no_match}
 use Rattle.world_examples.proofs.sound.refused_where_a_row_counts.Goals as goal
 

@@ -1,39 +1,17 @@
-use Rattle.std.proofs.Common.{◌≡◌, ℕ, ◌<◌, ◌≤◌, ◌+◌, ◌^◌, Bool, true, false, true≢false, refl, sym, ap, ◌∙◌, subst, Some, None, Option, List, [], ◌∷◌, arith, is_some, not, ◌⊎◌, inl, inr, ⊎_elim}
-use Rattle.std.specs.Prelude.{IsTrue, IfSome}
-use Rattle.std.specs.Ordering.{nat_cmp}
-use Rattle.std.specs.FinMap as fin
+use Rattle.std.proofs.Common.{◌≡◌, ℕ, ◌<◌, ◌^◌, true≢false, refl, ap, Some, [], ◌∷◌, arith}
+use Rattle.std.specs.Prelude.{IfSome}
 use Rattle.std.proofs.lemmas.Map.Lookups.{exact_unsigned}
-use Rattle.cell_world.specs.Texts.{Text}
-use Rattle.cell_world.specs.ByteOrder.{byte_cmp}
-use Rattle.cell_world.specs.Orders.{pair_cmp, local_cmp, row_cmp}
-use Rattle.cell_world.specs.Keys.{same, contains, overlaps, low_of}
-use Rattle.cell_world.specs.KeyForms.{is_normal_end, is_span_of}
-use Rattle.cell_world.specs.Jobs.{ends_at}
-use Rattle.cell_world.specs.Stores.{piece_key, local_key}
-use Rattle.cell_world.specs.Sound.{HasJob, HasPiece, HasShard, JobCells, JobTokens, IsOwnedAs}
-use Rattle.cell_world.specs.declared.cells.KeyType.{KeyType}
-use Rattle.cell_world.specs.declared.cells.KeyType.TheVariants.{Int}
-use Rattle.cell_world.specs.declared.cells.Away.TheVariants.{Detached, Suspect}
-use Rattle.cell_world.specs.declared.cells.LocalRow.{LocalRow}
-use Rattle.cell_world.specs.declared.cells.MapKind.{MapKind}
-use Rattle.cell_world.specs.declared.cells.MapKind.TheVariants as kind
-use Rattle.cell_world.specs.declared.cells.Mark.TheVariants.{Plain}
-use Rattle.cell_world.specs.declared.cells.Status.TheVariants.{Online, Offline}
+use Rattle.cell_world.specs.Keys.{same}
+use Rattle.cell_world.specs.Stores.{piece_key}
+use Rattle.cell_world.specs.Sound.{HasJob}
+use Rattle.cell_world.specs.declared.cells.Status.TheVariants.{Online}
 use Rattle.cell_world.specs.declared.operations.JobRow.{JobRow}
-use Rattle.cell_world.specs.declared.operations.Op.{Op}
-use Rattle.cell_world.specs.declared.operations.Phase.TheVariants.{Idle, Copying, Moved}
+use Rattle.cell_world.specs.declared.operations.Phase.TheVariants.{Idle}
 use Rattle.cell_world.specs.declared.operations.Piece.{Piece}
-use Rattle.cell_world.specs.declared.spans.High.{High}
-use Rattle.cell_world.specs.declared.spans.High.TheVariants.{At, Max}
-use Rattle.cell_world.specs.declared.spans.Span.{Span}
-use Rattle.cell_world.specs.declared.spans.Span.TheVariants.{Range, Point}
-use Rattle.cell_world.proofs.OrderLaws.{exact_text_pairs, exact_locals, exact_rows}
-use Rattle.world_examples.specs.Examples.{int_key, range, map_m, map_n, site_a, site_b, free_piece, job_piece, job_at, local_row, add_at_a, keyed_pieces, mappings_of, jobs_of, entries_m}
-use Rattle.world_examples.specs.Sounds.{long_key}
-use Rattle.world_examples.proofs.Tables.{get_of}
-use Rattle.world_examples.proofs.Standing.{standing, not_both, m_stands, is_int}
-use Rattle.world_examples.proofs.ImageParts.{numbered_jobs, b_not_a, offline_not_online, a_attached, b_attached}
-use Rattle.world_examples.proofs.Refuting.{piece_in, job_in, set_has, no_owner, no_batch, no_piece, key_of_job, not_attached}
+use Rattle.cell_world.proofs.OrderLaws.{exact_text_pairs}
+use Rattle.world_examples.specs.Examples.{map_m, map_n, site_a, free_piece, job_piece, job_at, keyed_pieces, jobs_of, keyed_jobs}
+use Rattle.world_examples.proofs.Standing.{standing}
+use Rattle.world_examples.proofs.Refuting.{piece_in, job_in}
 use Rattle.world_examples.proofs.sound.tokens_of_jobs.Goals as goal
 
 pub returns-clause-of_a_job : goal.returns-clause-of_a_job
@@ -48,20 +26,20 @@ returns-clause-of_no_job c = λ p. standing exact_text_pairs (λ k q. IfSome q.t
 pub returns-clause-no_job : goal.returns-clause-no_job
 returns-clause-no_job c = λ h.
     let token = h (job_piece 0 10 site_a Online) (piece_in (job_piece 0 10 site_a Online ∷ []) tt (job_piece 0 10 site_a Online) refl) (omega arith) in
-    standing exact_unsigned (λ k (job : JobRow). job.number ≡ 1 → job.map ≡ map_m → ⊥) (numbered_jobs ([])) tt tt token.0.number token.0 token.1 token.2 token.3
+    standing exact_unsigned (λ k (job : JobRow). job.number ≡ 1 → job.map ≡ map_m → ⊥) (keyed_jobs ([])) tt tt token.0.number token.0 token.1 token.2 token.3
 
 pub returns-clause-other_job : goal.returns-clause-other_job
 returns-clause-other_job c = λ h.
     let token = h (job_piece 0 10 site_a Online) (piece_in (job_piece 0 10 site_a Online ∷ []) tt (job_piece 0 10 site_a Online) refl) (omega arith) in
-    standing exact_unsigned (λ k (job : JobRow). job.number ≡ 1 → job.map ≡ map_m → ⊥) (numbered_jobs (record (job_at 0 Idle) { number = 2 } ∷ [])) tt ((λ n m. let number : ◌≡◌ {A = ℕ} 2 1 = n in omega arith), tt) token.0.number token.0 token.1 token.2 token.3
+    standing exact_unsigned (λ k (job : JobRow). job.number ≡ 1 → job.map ≡ map_m → ⊥) (keyed_jobs (record (job_at 0 Idle) { number = 2 } ∷ [])) tt ((λ n m. let number : ◌≡◌ {A = ℕ} 2 1 = n in omega arith), tt) token.0.number token.0 token.1 token.2 token.3
 
 pub returns-clause-other_map : goal.returns-clause-other_map
 returns-clause-other_map c = λ h.
     let token = h (job_piece 0 10 site_a Online) (piece_in (job_piece 0 10 site_a Online ∷ []) tt (job_piece 0 10 site_a Online) refl) (omega arith) in
-    standing exact_unsigned (λ k (job : JobRow). job.number ≡ 1 → job.map ≡ map_m → ⊥) (numbered_jobs (record (job_at 0 Idle) { map = map_n } ∷ [])) tt ((λ n m. true≢false (ap (λ name. same name map_n) m)), tt) token.0.number token.0 token.1 token.2 token.3
+    standing exact_unsigned (λ k (job : JobRow). job.number ≡ 1 → job.map ≡ map_m → ⊥) (keyed_jobs (record (job_at 0 Idle) { map = map_n } ∷ [])) tt ((λ n m. true≢false (ap (λ name. same name map_n) m)), tt) token.0.number token.0 token.1 token.2 token.3
 
 pub returns-clause-greatest : goal.returns-clause-greatest
 returns-clause-greatest c = λ h.
     let last : Piece = record (free_piece 0 10 site_a Online) { token = Some (record { 0 = 18446744073709551615 }) } in
     let token = h last (piece_in (last ∷ []) tt last refl) (omega arith) in
-    standing exact_unsigned (λ k (job : JobRow). ⊥) (numbered_jobs []) tt tt token.0.number token.0 token.1
+    standing exact_unsigned (λ k (job : JobRow). ⊥) (keyed_jobs []) tt tt token.0.number token.0 token.1
