@@ -5,6 +5,6 @@ pub mod Logged
 pub mod Marking
 pub mod Moving
 pub mod Refusing
-pub mod Refuting
+pub mod ShortTables
 pub mod Standing
 pub mod Tables

@@ -26,6 +26,7 @@ use Rattle.cell_world.specs.declared.operations.JobRow.{JobRow}
 use Rattle.cell_world.specs.declared.operations.Op.{Op}
 use Rattle.cell_world.specs.declared.operations.Piece.{Piece}
 use Rattle.cell_world.proofs.OrderLaws.{exact_text_pairs, exact_texts}
+use Rattle.world_examples.proofs.ShortTables.{no_job}
 use Rattle.world_examples.proofs.Accepting.{b_not_a}
 use Rattle.world_examples.specs.Examples.{int_key, range, map_m, site_a, site_b, free_piece, local_row, maps_m, tables_t, keyed_pieces, mappings_of, log_of, jobs_of, away_of, owner_with, sites_ab}
 use Rattle.world_examples.specs.Sounds.{pieces_logged, offline_logged, add_logged, global_logged, a_logged, b_logged, image_logged}
@@ -120,9 +121,6 @@ added_row = local_row 5 10 2 Online New
 abbrev rows_at_a : List LocalRow
 rows_at_a = old_row ∷ new_row ∷ []
 
-nobody_moves : (job : JobRow) → HasJob (jobs_of []) job → ⊥
-nobody_moves job = standing exact_unsigned (λ k x. ⊥) [] tt tt job.number job
-
 globals : GlobalCells global_logged
 globals = global_cells pieces_logged ops [] (Some (record { operation = 3; job = 1 })) (away_of []) tt (omega arith, omega arith) (omega arith)
     ((kind.Range, Int, m_stands, refl), tt) (a_is_shard, tt) apart
@@ -200,9 +198,9 @@ logged_sound = record {
   locals = λ location h. each_site (λ l. LocalCells (mappings_of pieces_logged) log 3 l (image_logged.at (Shard l)).locals) sites_ab (a_locals, (b_locals, tt)) location h.known;
   online = λ location h. each_site (λ l. OnlineRows maps_m (owner_with pieces_logged) log l (image_logged.at (Shard l)).locals) sites_ab (a_online, (b_online, tt)) location h.known;
   rows = λ location h. each_site (λ l. RowCells maps_m tables_t (owner_with pieces_logged) (jobs_of []) l (image_logged.at (Shard l)).rows) sites_ab (a_rows, (b_rows, tt)) location h.known;
-  batches = λ job h. absurd (nobody_moves job h);
+  batches = λ job h. absurd (no_job job h);
   suspect = λ location h. absurd (standing exact_texts (λ k x. ⊥) [] tt tt location Suspect h.1);
-  jobs = λ job h. absurd (nobody_moves job h);
-  progress = λ job h. absurd (nobody_moves job h);
+  jobs = λ job h. absurd (no_job job h);
+  progress = λ job h. absurd (no_job job h);
   tokens = λ p. standing exact_text_pairs (λ k q. IfSome q.token (λ token. token.0 < 2 ^ 64 → (job : JobRow) × HasJob (jobs_of []) job × (job.number ≡ token.0) × (job.map ≡ q.map))) (keyed_pieces pieces_logged) tt (tt, tt) (piece_key p) p;
 }

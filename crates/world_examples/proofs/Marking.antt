@@ -24,7 +24,7 @@ use Rattle.world_examples.specs.Sounds.{move_logged}
 use Rattle.world_examples.proofs.Tables.{get_of}
 use Rattle.world_examples.proofs.Standing.{standing}
 use Rattle.world_examples.proofs.ImageParts.{numbered_ops, keyed_locals}
-use Rattle.world_examples.proofs.Refuting.{local_in, op_in}
+use Rattle.world_examples.proofs.ShortTables.{local_in, op_in}
 
 -- the operation of this number is in the log, or it isn't
 pub logs : (ops : List Op) → T (is_sorted nat_cmp (numbered_ops ops)) → (number : ℕ) → is_logged (log_of ops) number ≡ is_some (fin.find nat_cmp number (numbered_ops ops))

@@ -11,7 +11,7 @@ use Rattle.cell_world.specs.Keys.{same, contains, before}
 use Rattle.cell_world.specs.KeyForms.{is_normal}
 use Rattle.cell_world.specs.Stores.{piece_key, local_key}
 use Rattle.cell_world.specs.Images.{Shard}
-use Rattle.cell_world.specs.Sound.{Sound, JobCells, JobTokens, IsBatch, BatchRows, InBatch, GlobalCells, LocalCells, OnlineRows, RowCells, HasPiece, HasLog, HasJob, IsBeingMoved}
+use Rattle.cell_world.specs.Sound.{Sound, JobCells, JobTokens, IsBatch, BatchRows, InBatch, GlobalCells, LocalCells, OnlineRows, RowCells, HasPiece, HasJob, IsBeingMoved}
 use Rattle.cell_world.specs.declared.cells.Away.TheVariants.{Suspect}
 use Rattle.cell_world.specs.declared.cells.KeyType.TheVariants.{Int}
 use Rattle.cell_world.specs.declared.cells.LocalRow.{LocalRow}
@@ -19,12 +19,12 @@ use Rattle.cell_world.specs.declared.cells.MapKind.TheVariants as kind
 use Rattle.cell_world.specs.declared.cells.Mark.TheVariants.{Plain}
 use Rattle.cell_world.specs.declared.cells.Status.TheVariants.{Online, Offline}
 use Rattle.cell_world.specs.declared.operations.JobRow.{JobRow}
-use Rattle.cell_world.specs.declared.operations.Op.{Op}
 use Rattle.cell_world.specs.declared.operations.Piece.{Piece}
 use Rattle.cell_world.specs.declared.spans.High.TheVariants.{At}
 use Rattle.cell_world.specs.declared.spans.Span.TheVariants.{Range}
 use Rattle.cell_world.proofs.OrderLaws.{exact_text_pairs, exact_texts, exact_rows}
 use Rattle.cell_world.proofs.SpanLaws.{not_true, same_self}
+use Rattle.world_examples.proofs.ShortTables.{empty_log}
 use Rattle.world_examples.proofs.Accepting.{b_not_a}
 use Rattle.world_examples.specs.Examples.{int_key, range, map_m, site_a, site_b, job_piece, local_row, maps_m, shards_ab, tables_t, keyed_pieces, mappings_of, log_of, jobs_of, away_of, owner_with, sites_ab, keyed_jobs}
 use Rattle.world_examples.specs.Sounds.{rows_with, pieces_moving, job_moving, global_moving, a_moving, b_moving, image_moving}
@@ -148,9 +148,6 @@ b_row = local_row 0 3 0 Online Plain
 abbrev rows_at_a : List LocalRow
 rows_at_a = a_row_1 ∷ a_row_2 ∷ []
 
-nothing_logged : (op : Op) → HasLog (log_of []) op → ⊥
-nothing_logged op = standing exact_unsigned (λ k x. ⊥) [] tt tt op.number op
-
 globals : GlobalCells global_moving
 globals = global_cells pieces_moving [] (job_moving ∷ []) (Some (record { operation = 1; job = 2 })) (away_of []) tt (omega arith, omega arith) (omega arith)
     ((kind.Range, Int, m_stands, refl), ((kind.Range, Int, m_stands, refl), ((kind.Range, Int, m_stands, refl), tt)))
@@ -212,7 +209,7 @@ moving_sound = record {
   keyed = image_keyed global_moving a_moving b_moving (global_keyed pieces_moving [] (job_moving ∷ []) (Some (record { operation = 1; job = 2 })) (away_of []) tt tt tt)
       (shard_keyed rows_at_a (4 ∷ 5 ∷ 7 ∷ []) tt) (shard_keyed (b_row ∷ []) (1 ∷ 2 ∷ 4 ∷ []) tt);
   globals = globals;
-  logged = record { lawful = λ op h. absurd (nothing_logged op h); numbered = λ op h. absurd (nothing_logged op h); hulls = λ a b h g e f. absurd (nothing_logged a h) };
+  logged = record { lawful = λ op h. absurd (empty_log op h); numbered = λ op h. absurd (empty_log op h); hulls = λ a b h g e f. absurd (empty_log a h) };
   locals = λ location h. each_site (λ l. LocalCells (mappings_of pieces_moving) (log_of []) 1 l (image_moving.at (Shard l)).locals) sites_ab (a_locals, (b_locals, tt)) location h.known;
   online = λ location h. each_site (λ l. OnlineRows maps_m (owner_with pieces_moving) (log_of []) l (image_moving.at (Shard l)).locals) sites_ab (a_online, (b_online, tt)) location h.known;
   rows = λ location h. each_site (λ l. RowCells maps_m tables_t (owner_with pieces_moving) (jobs_of (job_moving ∷ [])) l (image_moving.at (Shard l)).rows) sites_ab (a_rows, (b_rows, tt)) location h.known;

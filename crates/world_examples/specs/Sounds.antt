@@ -6,7 +6,7 @@ use Rattle.cell_world.specs.Stores.{Store, Shards, AwaySites, empty_store}
 use Rattle.cell_world.specs.Images.{Image, Place, Global, Shard}
 use Rattle.cell_world.specs.Marked.{MarkTables}
 use Rattle.cell_world.specs.Sound.{LogCells, LocalCells, OnlineRows, RowCells, BatchRows, SuspectSite, JobCells, IsBatch, IsCutOff, JobTokens}
-use Rattle.cell_world.specs.declared.cells.Away.TheVariants.{Suspect}
+use Rattle.cell_world.specs.declared.cells.Away.TheVariants.{Suspect, Detached}
 use Rattle.cell_world.specs.declared.cells.Counters.{Counters}
 use Rattle.cell_world.specs.declared.cells.LocalRow.{LocalRow}
 use Rattle.cell_world.specs.declared.cells.Mark.TheVariants.{Plain, Old, New}
@@ -64,12 +64,13 @@ b_at_rest = shard_with (local_row 5 10 0 Offline Plain ∷ []) (7 ∷ [])
 abbrev pub image_at_rest : Image
 image_at_rest = image_with global_at_rest a_at_rest b_at_rest
 
--- the same with `s/b` suspect, which lost its mapping's local row and has another one
-abbrev pub b_to_compare : Store
-b_to_compare = shard_with (local_row 20 30 0 Online Plain ∷ []) (7 ∷ [])
-
+-- the same with `s/b` suspect, which lost its mapping's local row and has others
 abbrev pub image_to_compare : Image
-image_to_compare = image_with (record global_at_rest { away = away_of ((site_b, Suspect) ∷ []) }) a_at_rest b_to_compare
+image_to_compare = image_with (record global_at_rest { away = away_of ((site_b, Suspect) ∷ []) }) a_at_rest (shard_with (local_row 20 30 0 Online Plain ∷ local_row 30 40 0 Offline Plain ∷ []) (7 ∷ []))
+
+-- the same with `s/b` detached, which has a row that no operation can have made
+abbrev pub image_detached : Image
+image_detached = image_with (record global_at_rest { away = away_of ((site_b, Detached) ∷ []) }) a_at_rest (shard_with (local_row 5 5 9 Online (Old 8) ∷ []) (3 ∷ []))
 
 -- ---- an image with a job: [0, 3) has moved to `s/b`, the batch [3, 6) is copied, and its first row is there already
 

@@ -13,7 +13,7 @@ ghost use Rattle.cell_world.specs.declared.operations.Phase.TheVariants.{Idle, C
 ghost use Rattle.cell_world.specs.declared.spans.High.TheVariants.{At, Max};
 ghost use Rattle.cell_world.specs.declared.spans.Span.TheVariants.{Range, Point};
 ghost use Rattle.world_examples.specs.Examples.{int_key, range, map_m, map_n, table_t, site_a, site_b, free_piece, job_piece, job_at, local_row, row_of, no_pieces, one_piece, op_on, add_at_a, shards_of, tables_of, away_of, maps_m, shards_ab, mappings_of, maps_of};
-ghost use Rattle.world_examples.specs.Sounds.{long_key, rows_with, global_with, global_at_rest, global_logged, image_at_rest, image_to_compare, image_moving, image_logged, add_logged, LogCellsWith, LocalCellsWith, OnlineRowsWith, RowCellsWith, BatchRowsWith, SuspectSiteWith, JobCellsWith, IsBatchWith, IsCutOffWith, JobTokensWith};
+ghost use Rattle.world_examples.specs.Sounds.{long_key, rows_with, global_with, global_at_rest, global_logged, image_at_rest, image_to_compare, image_detached, image_moving, image_logged, add_logged, LogCellsWith, LocalCellsWith, OnlineRowsWith, RowCellsWith, BatchRowsWith, SuspectSiteWith, JobCellsWith, IsBatchWith, IsCutOffWith, JobTokensWith};
 
 // ---- whole images
 
@@ -25,6 +25,11 @@ pub fn sound_at_rest()
 /// The same with a suspect site, whose local cells are others than the mappings there.
 pub fn sound_with_a_suspect_site()
     ensures { Sound image_to_compare }
+{}
+
+/// The same with a detached site, of whose cells nothing is said.
+pub fn sound_with_a_detached_site()
+    ensures { Sound image_detached }
 {}
 
 /// A job in the midst of its second batch, of which one row is copied.
@@ -45,8 +50,9 @@ pub fn refused_without_a_map()
     ensures tables { GlobalCells (record global_at_rest { tables = tables_of ((map_m, table_t) ∷ (map_n, table_t) ∷ []) }) → ⊥ }
 {}
 
-/// A counter out of its bounds.
-pub fn refused_counters()
+/// A counter at its last value, and counters out of their bounds.
+pub fn bounds_of_counters()
+    ensures last_accepted { GlobalCells (record global_at_rest { counter = Some (record { operation = 2 ^ 63; job = 1 }) }) }
     ensures no_operation { GlobalCells (record global_at_rest { counter = Some (record { operation = 0; job = 1 }) }) → ⊥ }
     ensures too_many { GlobalCells (record global_at_rest { counter = Some (record { operation = 2 ^ 63 + 1; job = 1 }) }) → ⊥ }
     ensures no_job { GlobalCells (record global_at_rest { counter = Some (record { operation = 1; job = 0 }) }) → ⊥ }
@@ -168,11 +174,12 @@ pub fn refused_owners_of_a_range()
     ensures behind_the_batch { JobCellsWith (job_piece 0 3 site_a Offline ∷ job_piece 3 10 site_a Offline ∷ []) (job_at 0 (Copying (At (int_key 3)))) → ⊥ }
 {}
 
-/// Above its low key the job's range is cut off: a mapping begins with it, and one ends at the cursor.
+/// Above its low key the job's range is cut off: a mapping of its map begins with it, and one ends at the cursor.
 pub fn ranges_cut_off()
     ensures cut { IsCutOffWith (job_piece 0 3 site_b Online ∷ job_piece 3 10 site_a Online ∷ []) (job_at 3 Idle) }
     ensures two_parts { IsCutOffWith (job_piece 0 2 site_b Online ∷ job_piece 2 3 site_b Online ∷ job_piece 3 10 site_a Online ∷ []) (job_at 3 Idle) }
     ensures begins_before { IsCutOffWith (job_piece 0 3 site_b Online ∷ job_piece 3 10 site_a Online ∷ []) (record (job_at 3 Idle) { low = int_key 2 }) → ⊥ }
+    ensures other_map { IsCutOffWith (record (job_piece 0 3 site_b Online) { map = map_n } ∷ []) (job_at 3 Idle) → ⊥ }
     ensures ends_after { IsCutOffWith (job_piece 0 5 site_b Online ∷ job_piece 5 10 site_a Online ∷ []) (job_at 3 Idle) → ⊥ }
     ensures begins_before_in_a_job { JobCellsWith (job_piece 0 3 site_b Online ∷ job_piece 3 10 site_a Online ∷ []) (record (job_at 3 Idle) { low = int_key 2 }) → ⊥ }
     ensures ends_after_in_a_job { JobCellsWith (job_piece 0 12 site_b Online ∷ []) (job_at 10 Idle) → ⊥ }

@@ -2,7 +2,7 @@ use Rattle.std.proofs.Common.{refl, [], ◌∷◌}
 use Rattle.cell_world.specs.declared.cells.Status.TheVariants.{Online, Offline}
 use Rattle.world_examples.specs.Examples.{int_key, site_a, site_b, job_piece}
 use Rattle.world_examples.proofs.ImageParts.{a_attached, b_attached}
-use Rattle.world_examples.proofs.Refuting.{piece_in}
+use Rattle.world_examples.proofs.ShortTables.{piece_in}
 use Rattle.world_examples.proofs.sound.batches_in_progress.Goals as goal
 
 pub returns-clause-copied : goal.returns-clause-copied

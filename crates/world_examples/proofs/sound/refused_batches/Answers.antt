@@ -7,7 +7,7 @@ use Rattle.cell_world.specs.declared.spans.High.TheVariants.{At, Max}
 use Rattle.world_examples.proofs.Accepting.{b_not_a}
 use Rattle.world_examples.specs.Examples.{int_key, map_n, site_a, site_b, job_piece, job_at}
 use Rattle.world_examples.proofs.ImageParts.{offline_not_online}
-use Rattle.world_examples.proofs.Refuting.{no_batch}
+use Rattle.world_examples.proofs.ShortTables.{no_batch}
 use Rattle.world_examples.proofs.sound.refused_batches.Goals as goal
 
 abbrev is_max : High → Bool

@@ -1,7 +1,7 @@
 use Rattle.std.proofs.Common.{refl, [], ◌∷◌}
 use Rattle.cell_world.specs.declared.cells.Away.TheVariants.{Detached, Suspect}
 use Rattle.world_examples.specs.Examples.{site_a, site_b}
-use Rattle.world_examples.proofs.Refuting.{not_attached}
+use Rattle.world_examples.proofs.ShortTables.{not_attached}
 use Rattle.world_examples.proofs.sound.refused_batches_with_a_site_away.Goals as goal
 
 pub returns-clause-copied_from : goal.returns-clause-copied_from

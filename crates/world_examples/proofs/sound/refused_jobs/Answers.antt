@@ -11,7 +11,7 @@ use Rattle.world_examples.specs.Examples.{range, map_m, site_a, site_b}
 use Rattle.world_examples.specs.Sounds.{long_key}
 use Rattle.world_examples.proofs.Tables.{get_of}
 use Rattle.world_examples.proofs.Standing.{not_both, is_int}
-use Rattle.world_examples.proofs.Refuting.{set_has}
+use Rattle.world_examples.proofs.ShortTables.{set_has}
 use Rattle.world_examples.proofs.sound.refused_jobs.Goals as goal
 
 abbrev is_range : Option (MapKind × KeyType) → Bool

@@ -4,7 +4,7 @@ use Rattle.cell_world.specs.declared.operations.Extra.TheVariants as extra
 use Rattle.cell_world.specs.declared.operations.Op.{Op}
 use Rattle.world_examples.specs.Examples.{range, site_a, free_piece, no_pieces, one_piece, op_on, add_at_a}
 use Rattle.world_examples.proofs.ImageParts.{offline_not_online}
-use Rattle.world_examples.proofs.Refuting.{op_in}
+use Rattle.world_examples.proofs.ShortTables.{op_in}
 use Rattle.world_examples.proofs.sound.refused_log_cells.Goals as goal
 
 pub returns-clause-unlawful : goal.returns-clause-unlawful

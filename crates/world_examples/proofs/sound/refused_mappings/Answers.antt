@@ -6,7 +6,7 @@ use Rattle.world_examples.proofs.Accepting.{b_not_a}
 use Rattle.world_examples.specs.Examples.{int_key, range, map_m, site_a, site_b, free_piece}
 use Rattle.world_examples.specs.Sounds.{pieces_at_rest}
 use Rattle.world_examples.proofs.Standing.{not_both}
-use Rattle.world_examples.proofs.Refuting.{piece_in, set_has, span_of_m}
+use Rattle.world_examples.proofs.ShortTables.{piece_in, set_has, span_of_m}
 use Rattle.world_examples.proofs.sound.refused_mappings.Goals as goal
 
 pub returns-clause-empty_span : goal.returns-clause-empty_span

@@ -5,7 +5,7 @@ use Rattle.cell_world.specs.declared.cells.Status.TheVariants.{Online}
 use Rattle.world_examples.proofs.Accepting.{b_not_a}
 use Rattle.world_examples.specs.Examples.{int_key, local_row, add_at_a}
 use Rattle.world_examples.specs.Sounds.{add_logged}
-use Rattle.world_examples.proofs.Refuting.{local_in, op_in}
+use Rattle.world_examples.proofs.ShortTables.{local_in, op_in}
 use Rattle.world_examples.proofs.sound.refused_marks.Goals as goal
 
 pub returns-clause-old : goal.returns-clause-old

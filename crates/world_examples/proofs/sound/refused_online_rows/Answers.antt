@@ -5,7 +5,7 @@ use Rattle.world_examples.proofs.Accepting.{b_not_a}
 use Rattle.world_examples.specs.Examples.{int_key, range, map_m, site_a, site_b, free_piece, local_row}
 use Rattle.world_examples.specs.Sounds.{add_logged}
 use Rattle.world_examples.proofs.Standing.{not_both, owner_there}
-use Rattle.world_examples.proofs.Refuting.{local_in, span_of_m, key_of_m, nothing_comes, not_coming, no_owner}
+use Rattle.world_examples.proofs.ShortTables.{local_in, span_of_m, key_of_m, nothing_comes, not_coming, no_owner}
 use Rattle.world_examples.proofs.sound.refused_online_rows.Goals as goal
 
 pub returns-clause-empty_span : goal.returns-clause-empty_span

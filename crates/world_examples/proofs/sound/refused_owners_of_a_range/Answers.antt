@@ -3,7 +3,7 @@ use Rattle.cell_world.specs.declared.cells.Status.TheVariants.{Online, Offline}
 use Rattle.world_examples.proofs.Accepting.{b_not_a}
 use Rattle.world_examples.specs.Examples.{int_key, site_a, site_b, job_piece}
 use Rattle.world_examples.proofs.ImageParts.{offline_not_online}
-use Rattle.world_examples.proofs.Refuting.{no_owner, key_of_job}
+use Rattle.world_examples.proofs.ShortTables.{no_owner, key_of_job}
 use Rattle.world_examples.proofs.sound.refused_owners_of_a_range.Goals as goal
 
 pub returns-clause-done_at_source : goal.returns-clause-done_at_source

@@ -7,7 +7,7 @@ use Rattle.world_examples.proofs.Accepting.{b_not_a}
 use Rattle.world_examples.specs.Examples.{int_key, map_m, map_n, table_t, site_a, site_b, free_piece, job_at, row_of}
 use Rattle.world_examples.specs.Sounds.{rows_with}
 use Rattle.world_examples.proofs.Standing.{not_both}
-use Rattle.world_examples.proofs.Refuting.{row_in, set_has, no_owner, not_moved, batch_is}
+use Rattle.world_examples.proofs.ShortTables.{row_in, set_has, no_owner, not_moved, batch_is}
 use Rattle.world_examples.proofs.sound.refused_row_cells.Goals as goal
 
 pub returns-clause-no_table : goal.returns-clause-no_table

@@ -6,7 +6,7 @@ use Rattle.cell_world.specs.declared.cells.Mark.TheVariants.{Plain, Old, New}
 use Rattle.cell_world.specs.declared.cells.Status.TheVariants.{Online}
 use Rattle.world_examples.specs.Examples.{int_key, range, map_m, site_a, site_b, local_row}
 use Rattle.world_examples.proofs.Standing.{not_both}
-use Rattle.world_examples.proofs.Refuting.{local_in, set_has, span_of_m}
+use Rattle.world_examples.proofs.ShortTables.{local_in, set_has, span_of_m}
 use Rattle.world_examples.proofs.sound.refused_suspect_sites.Goals as goal
 
 abbrev is_plain : Mark → Bool

@@ -1,7 +1,7 @@
 use Rattle.std.proofs.Common.{◌≡◌, ℕ, true≢false, refl, sym, ap, Some, None, Option, [], ◌∷◌, arith, is_some}
 use Rattle.cell_world.specs.declared.cells.Status.TheVariants.{Online}
 use Rattle.world_examples.specs.Examples.{int_key, site_a, free_piece, job_piece}
-use Rattle.world_examples.proofs.Refuting.{no_owner, key_of_job}
+use Rattle.world_examples.proofs.ShortTables.{no_owner, key_of_job}
 use Rattle.world_examples.proofs.sound.refused_tokens_of_a_range.Goals as goal
 use Rattle.cell_world.specs.declared.cells.Token.{Token}
 

@@ -8,7 +8,7 @@ use Rattle.world_examples.proofs.Accepting.{b_not_a}
 use Rattle.world_examples.specs.Examples.{int_key, site_a, site_b, free_piece, local_row}
 use Rattle.world_examples.proofs.Tables.{get_of}
 use Rattle.world_examples.proofs.ImageParts.{numbered_ops, offline_not_online}
-use Rattle.world_examples.proofs.Refuting.{local_in, no_match}
+use Rattle.world_examples.proofs.ShortTables.{local_in, no_match}
 use Rattle.world_examples.proofs.sound.refused_where_a_row_counts.Goals as goal
 
 pub returns-clause-of_none : goal.returns-clause-of_none

@@ -10,7 +10,7 @@ use Rattle.world_examples.specs.Examples.{site_a, free_piece, local_row, log_of}
 use Rattle.world_examples.proofs.Tables.{get_of}
 use Rattle.world_examples.proofs.Standing.{standing, not_both}
 use Rattle.world_examples.proofs.ImageParts.{numbered_ops, keyed_locals}
-use Rattle.world_examples.proofs.Refuting.{piece_in, local_in}
+use Rattle.world_examples.proofs.ShortTables.{piece_in, local_in}
 use Rattle.world_examples.proofs.sound.refused_where_rows_do_not_fit_a_mapping.Goals as goal
 
 pub returns-clause-no_row : goal.returns-clause-no_row

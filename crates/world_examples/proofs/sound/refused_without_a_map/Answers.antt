@@ -3,7 +3,7 @@ use Rattle.cell_world.specs.ByteOrder.{byte_cmp}
 use Rattle.world_examples.specs.Examples.{map_m, map_n, table_t, site_a, site_b, entries_m}
 use Rattle.world_examples.proofs.Tables.{get_of}
 use Rattle.world_examples.proofs.Standing.{not_both}
-use Rattle.world_examples.proofs.Refuting.{set_has}
+use Rattle.world_examples.proofs.ShortTables.{set_has}
 use Rattle.world_examples.proofs.sound.refused_without_a_map.Goals as goal
 
 pub returns-clause-shards : goal.returns-clause-shards

@@ -10,7 +10,7 @@ use Rattle.world_examples.specs.Examples.{int_key, job_at, row_of, rows_of}
 use Rattle.world_examples.specs.Sounds.{rows_with}
 use Rattle.world_examples.proofs.Tables.{get_of}
 use Rattle.world_examples.proofs.Standing.{standing}
-use Rattle.world_examples.proofs.Refuting.{batch_is}
+use Rattle.world_examples.proofs.ShortTables.{batch_is}
 use Rattle.world_examples.proofs.sound.rows_of_a_batch.Goals as goal
 
 abbrev has_bytes : Option Text → Bool

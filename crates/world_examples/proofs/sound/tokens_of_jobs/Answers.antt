@@ -11,7 +11,7 @@ use Rattle.cell_world.specs.declared.operations.Piece.{Piece}
 use Rattle.cell_world.proofs.OrderLaws.{exact_text_pairs}
 use Rattle.world_examples.specs.Examples.{map_m, map_n, site_a, free_piece, job_piece, job_at, keyed_pieces, jobs_of, keyed_jobs}
 use Rattle.world_examples.proofs.Standing.{standing}
-use Rattle.world_examples.proofs.Refuting.{piece_in, job_in}
+use Rattle.world_examples.proofs.ShortTables.{piece_in, job_in}
 use Rattle.world_examples.proofs.sound.tokens_of_jobs.Goals as goal
 
 pub returns-clause-of_a_job : goal.returns-clause-of_a_job

@@ -7,7 +7,7 @@ use Rattle.world_examples.specs.Examples.{int_key, site_a, site_b, free_piece, l
 use Rattle.world_examples.specs.Sounds.{move_logged}
 use Rattle.world_examples.proofs.Standing.{not_both}
 use Rattle.world_examples.proofs.ImageParts.{offline_not_online}
-use Rattle.world_examples.proofs.Refuting.{local_in}
+use Rattle.world_examples.proofs.ShortTables.{local_in}
 use Rattle.world_examples.proofs.Marking.{logs, not_marked, old_row, source_marked}
 use Rattle.world_examples.proofs.stages.marks_at_a_site.Goals as goal
 

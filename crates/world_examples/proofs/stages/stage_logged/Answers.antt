@@ -4,7 +4,7 @@ use Rattle.cell_world.specs.declared.operations.Op.{Op}
 use Rattle.cell_world.specs.declared.operations.Piece.{Piece}
 use Rattle.world_examples.proofs.Accepting.{b_not_a}
 use Rattle.world_examples.specs.Examples.{add_at_a}
-use Rattle.world_examples.proofs.Refuting.{op_in}
+use Rattle.world_examples.proofs.ShortTables.{op_in}
 use Rattle.world_examples.proofs.Marking.{out_of_log, in_log}
 use Rattle.world_examples.proofs.stages.stage_logged.Goals as goal
 use Rattle.std.proofs.Common.{Option}

@@ -4,7 +4,7 @@ use Rattle.cell_world.specs.declared.cells.Mark.TheVariants.{Plain}
 use Rattle.cell_world.specs.declared.cells.Status.TheVariants.{Offline}
 use Rattle.world_examples.specs.Examples.{site_a, local_row}
 use Rattle.world_examples.proofs.ImageParts.{a_attached, b_attached}
-use Rattle.world_examples.proofs.Refuting.{local_in, not_attached}
+use Rattle.world_examples.proofs.ShortTables.{local_in, not_attached}
 use Rattle.world_examples.proofs.Marking.{old_number, is_new, old_row, new_row, out_of_log, in_log, no_mark}
 use Rattle.world_examples.proofs.stages.stage_settled.Goals as goal
 

@@ -78,6 +78,9 @@ key_of_m key normal = (kind.Range, Int, m_stands, normal)
 pub empty_log : (op : Op) → HasLog (log_of []) op → ⊥
 empty_log op = standing exact_unsigned (λ k x. ⊥) [] tt tt op.number op
 
+pub no_job : (job : JobRow) → HasJob (jobs_of []) job → ⊥
+no_job job = standing exact_unsigned (λ k x. ⊥) [] tt tt job.number job
+
 pub nothing_comes : (name key location : Text) → IsComing (log_of []) name key location → ⊥
 nothing_comes name key location h = empty_log h.0 h.1
 
