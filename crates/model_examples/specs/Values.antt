@@ -1,0 +1,113 @@
+-- Small values for the examples: two sites, the map m of small numbers, and a job that moves a range of it.
+use Rattle.std.specs.Prelude.{ℕ, List, [], ◌∷◌, Option, Some, None, codes, map}
+use Rattle.std.specs.FinMap as fin
+use Rattle.std.specs.FinSet as set
+use Rattle.cell_world.specs.Texts.{Text}
+use Rattle.cell_world.specs.Stores.{Maps, Mappings, Jobs, AwaySites, piece_key}
+use Rattle.cell_world.specs.Plain.{PlainState, holds_nothing, nobody}
+use Rattle.cell_world.specs.declared.cells.Away.{Away}
+use Rattle.cell_world.specs.declared.cells.KeyType.TheVariants.{Int}
+use Rattle.cell_world.specs.declared.cells.MapKind.TheVariants as kind
+use Rattle.cell_world.specs.declared.cells.Status.{Status}
+use Rattle.cell_world.specs.declared.operations.Piece.{Piece}
+use Rattle.cell_world.specs.declared.operations.JobRow.{JobRow}
+use Rattle.cell_world.specs.declared.operations.Phase.{Phase}
+use Rattle.cell_world.specs.declared.spans.High.TheVariants.{At}
+use Rattle.plain_model.specs.declared.commands.Command.{Command}
+use Rattle.plain_model.specs.declared.commands.Command.TheVariants as command
+use Rattle.plain_model.specs.declared.replies.Reply.{Reply}
+use Rattle.plain_model.specs.declared.history.Entry.{Entry}
+use Rattle.plain_model.specs.Timelines.{Made}
+use Rattle.plain_model.specs.Worked.{small_key, small_range, mapping_over, mapping_with}
+
+-- ---- names and locations
+
+abbrev pub map_m : Text
+map_m = codes "m"
+
+-- another name, of which no map stands
+abbrev pub map_n : Text
+map_n = codes "n"
+
+abbrev pub site_a : Text
+site_a = codes "s/a"
+
+abbrev pub site_b : Text
+site_b = codes "s/b"
+
+-- ---- commands and entries
+
+-- the command `map m range int`, and that of another name
+abbrev pub make_map : Text → Command
+make_map name = command.Map name kind.Range Int
+
+abbrev pub answered : ℕ → Command → Reply → Entry
+answered session c r = record { session = session; command = c; reply = Some r; moment = 1; operation = 0 }
+
+-- an entry of a job's step, which has no reply
+abbrev pub silent : ℕ → Command → Entry
+silent session c = record { session = session; command = c; reply = None; moment = 1; operation = 0 }
+
+-- the entry names an operation
+abbrev pub naming : Entry → ℕ → Entry
+naming e number = record e { operation = number }
+
+-- an entry with the state before it
+abbrev pub made : Entry → PlainState → Made
+made e before = record { entry = e; before = before }
+
+-- ---- tables: the entries are given in the order of their keys
+
+abbrev pub maps_m : Maps
+maps_m = fin.from_sorted ((map_m, (kind.Range, Int)) ∷ [])
+
+abbrev pub keyed_pieces : List Piece → List ((Text × Text) × Piece)
+keyed_pieces pieces = map (λ p. (piece_key p, p)) pieces
+
+abbrev pub mappings_of : List Piece → Mappings
+mappings_of pieces = fin.from_sorted (keyed_pieces pieces)
+
+abbrev pub numbered_jobs : List JobRow → List (ℕ × JobRow)
+numbered_jobs jobs = map (λ (job : JobRow). (job.number, job)) jobs
+
+abbrev pub jobs_of : List JobRow → Jobs
+jobs_of jobs = fin.from_sorted (numbered_jobs jobs)
+
+abbrev pub away_of : List (Text × Away) → AwaySites
+away_of sites = fin.from_sorted sites
+
+-- ---- states
+
+-- two attached sites, and nothing else
+abbrev pub empty_state : PlainState
+empty_state = record {
+  locations = site_a ∷ site_b ∷ [];
+  maps = fin.empty;
+  shards = set.empty;
+  tables = set.empty;
+  mappings = fin.empty;
+  jobs = fin.empty;
+  next_job = 1;
+  away = fin.empty;
+  rows = fin.empty;
+  held = λ location. holds_nothing;
+  connections = nobody;
+}
+
+-- the state with one map more
+abbrev pub with_map : PlainState → Text → PlainState
+with_map s name = record s { maps = fin.insert s.maps name (kind.Range, Int) }
+
+-- the map m with these mappings and jobs
+abbrev pub state_with : List Piece → List JobRow → PlainState
+state_with pieces jobs = record empty_state { maps = maps_m; mappings = mappings_of pieces; jobs = jobs_of jobs }
+
+-- ---- a job
+
+-- job 1, which moves [0, 10) of m from `s/a` to `s/b` in batches of two rows; its cursor is at a small number
+abbrev pub job_at : ℕ → Phase → JobRow
+job_at cursor phase = record { number = 1; map = map_m; low = small_key 0; high = At (small_key 10); source = site_a; target = site_b; batch = 2; cursor = At (small_key cursor); phase = phase }
+
+-- a mapping of m with the job's token
+abbrev pub job_piece : ℕ → ℕ → Text → Status → Piece
+job_piece low high location status = record (mapping_with (small_range low high) status (record { 0 = 1 })) { location = location }

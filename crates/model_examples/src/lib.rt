@@ -1,0 +1,4 @@
+//! Examples of the definitions of the history, as laws: small histories that a definition accepts, and some that it refuses. There is no code here, so there are no edits.
+#![tactic(auto)]
+
+pub mod follows;
