@@ -1,2 +1,3 @@
+pub mod JobStates
 pub mod Lookups
 pub mod Maps

@@ -6,12 +6,16 @@ use Rattle.cell_world.specs.Texts.{Text}
 use Rattle.cell_world.specs.Stores.{Maps, Mappings, Jobs, AwaySites, piece_key}
 use Rattle.cell_world.specs.Plain.{PlainState, holds_nothing, nobody}
 use Rattle.cell_world.specs.declared.cells.Away.{Away}
+use Rattle.cell_world.specs.declared.cells.KeyType.{KeyType}
 use Rattle.cell_world.specs.declared.cells.KeyType.TheVariants.{Int}
+use Rattle.cell_world.specs.declared.cells.MapKind.{MapKind}
 use Rattle.cell_world.specs.declared.cells.MapKind.TheVariants as kind
 use Rattle.cell_world.specs.declared.cells.Status.{Status}
+use Rattle.cell_world.specs.declared.cells.Status.TheVariants.{Online, Offline}
 use Rattle.cell_world.specs.declared.operations.Piece.{Piece}
 use Rattle.cell_world.specs.declared.operations.JobRow.{JobRow}
 use Rattle.cell_world.specs.declared.operations.Phase.{Phase}
+use Rattle.cell_world.specs.declared.operations.Phase.TheVariants.{Idle, Copying, Moved}
 use Rattle.cell_world.specs.declared.spans.High.TheVariants.{At}
 use Rattle.plain_model.specs.declared.commands.Command.{Command}
 use Rattle.plain_model.specs.declared.commands.Command.TheVariants as command
@@ -58,8 +62,12 @@ made e before = record { entry = e; before = before }
 
 -- ---- tables: the entries are given in the order of their keys
 
+-- the one map is `m`
+abbrev pub entries_m : List (Text × (MapKind × KeyType))
+entries_m = (map_m, (kind.Range, Int)) ∷ []
+
 abbrev pub maps_m : Maps
-maps_m = fin.from_sorted ((map_m, (kind.Range, Int)) ∷ [])
+maps_m = fin.from_sorted entries_m
 
 abbrev pub keyed_pieces : List Piece → List ((Text × Text) × Piece)
 keyed_pieces pieces = map (λ p. (piece_key p, p)) pieces
@@ -111,3 +119,31 @@ job_at cursor phase = record { number = 1; map = map_m; low = small_key 0; high 
 -- a mapping of m with the job's token
 abbrev pub job_piece : ℕ → ℕ → Text → Status → Piece
 job_piece low high location status = record (mapping_with (small_range low high) status (record { 0 = 1 })) { location = location }
+
+-- nothing is moved yet
+abbrev pub fresh_state : PlainState
+fresh_state = state_with (job_piece 0 10 site_a Online ∷ []) (job_at 0 Idle ∷ [])
+
+-- the batch [0, 5) is copied
+abbrev pub copying_state : PlainState
+copying_state = state_with (job_piece 0 5 site_a Offline ∷ job_piece 5 10 site_a Online ∷ []) (job_at 0 (Copying (At (small_key 5))) ∷ [])
+
+-- the batch is at the target, not online yet: the next step is its online
+abbrev pub moved_state : PlainState
+moved_state = state_with (job_piece 0 5 site_b Offline ∷ job_piece 5 10 site_a Online ∷ []) (job_at 0 (Moved (At (small_key 5))) ∷ [])
+
+-- the batch is done
+abbrev pub between_state : PlainState
+between_state = state_with (job_piece 0 5 site_b Online ∷ job_piece 5 10 site_a Online ∷ []) (job_at 5 Idle ∷ [])
+
+-- the batch [3, 5) is done, and a merge is due
+abbrev pub merging_state : PlainState
+merging_state = state_with (job_piece 0 3 site_b Online ∷ job_piece 3 5 site_b Online ∷ job_piece 5 10 site_a Online ∷ []) (job_at 5 Idle ∷ [])
+
+-- all is moved: the next step is the finish
+abbrev pub all_moved_state : PlainState
+all_moved_state = state_with (job_piece 0 10 site_b Online ∷ []) (job_at 10 Idle ∷ [])
+
+-- the job is gone
+abbrev pub finished_state : PlainState
+finished_state = state_with (record (mapping_over (small_range 0 10) Online) { location = site_b } ∷ []) []

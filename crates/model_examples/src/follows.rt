@@ -1,9 +1,18 @@
 //! Examples of which entries follow a state, by the reply.
-ghost use Rattle.std.specs.Prelude.{[], Some, None};
+ghost use Rattle.std.specs.Prelude.{[], ◌∷◌, Some, None};
+ghost use Rattle.cell_world.specs.declared.cells.KeyType.TheVariants as type;
+ghost use Rattle.cell_world.specs.declared.cells.Status.TheVariants.{Online, Offline};
+ghost use Rattle.cell_world.specs.declared.operations.Extra.TheVariants as extra;
+ghost use Rattle.cell_world.specs.declared.operations.Phase.TheVariants.{Idle, Moved};
+ghost use Rattle.cell_world.specs.declared.spans.High.TheVariants.{At};
+ghost use Rattle.plain_model.specs.declared.commands.Command.TheVariants as command;
 ghost use Rattle.plain_model.specs.declared.replies.Reply.TheVariants as reply;
 ghost use Rattle.plain_model.specs.declared.replies.Refusal.TheVariants as refused;
 ghost use Rattle.plain_model.specs.Follows.{Follows};
-ghost use Rattle.model_examples.specs.Values.{map_m, map_n, make_map, answered, empty_state, with_map};
+ghost use Rattle.plain_model.specs.JobSteps.{with_extra};
+ghost use Rattle.plain_model.specs.Steps.{exchanging};
+ghost use Rattle.plain_model.specs.Worked.{small_key};
+ghost use Rattle.model_examples.specs.Values.{map_m, map_n, site_a, site_b, make_map, answered, silent, made, empty_state, with_map, job_at, job_piece, fresh_state, copying_state, moved_state, between_state, merging_state, all_moved_state, finished_state};
 
 /// An answer or a refusal is the plain step's, and so is the state.
 pub fn plain_answers()
@@ -15,4 +24,59 @@ pub fn plain_answers()
     ensures never_refused_where_it_is_done { Follows [] empty_state (answered 1 (make_map map_m) (reply.Refused refused.MapExists)) empty_state (Some (reply.Refused refused.MapExists)) → ⊥ }
     ensures never_refused_otherwise { Follows [] (with_map empty_state map_m) (answered 1 (make_map map_m) (reply.Refused refused.NoMap)) (with_map empty_state map_m) (Some (reply.Refused refused.NoMap)) → ⊥ }
     ensures never_refused_with_a_change { Follows [] (with_map empty_state map_m) (answered 1 (make_map map_m) (reply.Refused refused.MapExists)) empty_state (Some (reply.Refused refused.MapExists)) → ⊥ }
+{}
+
+/// `job-running` needs that the job stands, and changes nothing.
+pub fn job_running()
+    ensures at_a_step { Follows [] fresh_state (answered 2 (command.Step 1) (reply.Refused refused.JobRunning)) fresh_state (Some (reply.Refused refused.JobRunning)) }
+    ensures at_a_run { Follows [] fresh_state (answered 2 (command.Run 1) (reply.Refused refused.JobRunning)) fresh_state (Some (reply.Refused refused.JobRunning)) }
+    ensures never_without_the_job { Follows [] empty_state (answered 2 (command.Step 1) (reply.Refused refused.JobRunning)) empty_state (Some (reply.Refused refused.JobRunning)) → ⊥ }
+    ensures never_of_another_command { Follows [] fresh_state (answered 2 (make_map map_n) (reply.Refused refused.JobRunning)) fresh_state (Some (reply.Refused refused.JobRunning)) → ⊥ }
+    ensures never_with_a_change { Follows [] fresh_state (answered 2 (command.Step 1) (reply.Refused refused.JobRunning)) (with_map fresh_state map_n) (Some (reply.Refused refused.JobRunning)) → ⊥ }
+{}
+
+/// `full` where no operation number is left comes to a command that would take one, and to the finish of a job it doesn't.
+pub fn full_of_numbers()
+    ensures at_a_step { Follows [] fresh_state (answered 1 (command.Step 1) (reply.Refused refused.Full)) fresh_state (Some (reply.Refused refused.Full)) }
+    ensures never_at_the_finish { Follows [] all_moved_state (answered 1 (command.Step 1) (reply.Refused refused.Full)) all_moved_state (Some (reply.Refused refused.Full)) → ⊥ }
+    ensures never_of_a_command_without_a_number { Follows [] empty_state (answered 1 (make_map map_m) (reply.Refused refused.Full)) empty_state (Some (reply.Refused refused.Full)) → ⊥ }
+    ensures never_where_another_refusal_holds { Follows [] empty_state (answered 1 (command.Step 1) (reply.Refused refused.Full)) empty_state (Some (reply.Refused refused.Full)) → ⊥ }
+    ensures never_with_a_change { Follows [] fresh_state (answered 1 (command.Step 1) (reply.Refused refused.Full)) (with_map fresh_state map_n) (Some (reply.Refused refused.Full)) → ⊥ }
+{}
+
+/// An entry without a reply is the next step of a job.
+pub fn steps_of_jobs()
+    ensures move_there { Follows [] copying_state (silent 1 (command.Step 1))
+        (with_extra (exchanging copying_state (job_piece 0 5 site_a Offline ∷ [], job_piece 0 5 site_b Offline ∷ [])) (extra.JobPut (job_at 0 (Moved (At (small_key 5)))))) None }
+    ensures never_without_a_change { Follows [] copying_state (silent 1 (command.Step 1)) copying_state None → ⊥ }
+    ensures never_two_steps_at_once { Follows [] copying_state (silent 1 (command.Step 1)) between_state None → ⊥ }
+    ensures never_of_a_job_that_is_gone { Follows [] finished_state (silent 1 (command.Step 1)) finished_state None → ⊥ }
+    ensures never_of_another_command { Follows [] empty_state (silent 1 (make_map map_m)) (with_map empty_state map_m) None → ⊥ }
+{}
+
+/// `cursor KEY` answers a `step` whose batch was just moved.
+pub fn cursors()
+    ensures after_the_online { Follows (made (silent 1 (command.Step 1)) moved_state ∷ []) between_state (answered 1 (command.Step 1) (reply.Cursor type.Int (small_key 5))) between_state (Some (reply.Cursor type.Int (small_key 5))) }
+    ensures never_in_another_type { Follows (made (silent 1 (command.Step 1)) moved_state ∷ []) between_state (answered 1 (command.Step 1) (reply.Cursor type.Long (small_key 5))) between_state (Some (reply.Cursor type.Long (small_key 5))) → ⊥ }
+    ensures never_another_key { Follows (made (silent 1 (command.Step 1)) moved_state ∷ []) between_state (answered 1 (command.Step 1) (reply.Cursor type.Int (small_key 6))) between_state (Some (reply.Cursor type.Int (small_key 6))) → ⊥ }
+    ensures never_after_two_onlines { Follows (made (silent 1 (command.Step 1)) moved_state ∷ made (silent 1 (command.Step 1)) moved_state ∷ []) between_state (answered 1 (command.Step 1) (reply.Cursor type.Int (small_key 5))) between_state (Some (reply.Cursor type.Int (small_key 5))) → ⊥ }
+    ensures never_after_nothing { Follows [] between_state (answered 1 (command.Step 1) (reply.Cursor type.Int (small_key 5))) between_state (Some (reply.Cursor type.Int (small_key 5))) → ⊥ }
+    ensures never_after_another_session { Follows (made (silent 2 (command.Step 1)) moved_state ∷ []) between_state (answered 1 (command.Step 1) (reply.Cursor type.Int (small_key 5))) between_state (Some (reply.Cursor type.Int (small_key 5))) → ⊥ }
+    ensures never_after_another_step { Follows (made (silent 1 (command.Step 1)) copying_state ∷ []) between_state (answered 1 (command.Step 1) (reply.Cursor type.Int (small_key 5))) between_state (Some (reply.Cursor type.Int (small_key 5))) → ⊥ }
+    ensures never_to_a_run { Follows (made (silent 1 (command.Run 1)) moved_state ∷ []) between_state (answered 1 (command.Run 1) (reply.Cursor type.Int (small_key 5))) between_state (Some (reply.Cursor type.Int (small_key 5))) → ⊥ }
+    ensures never_where_a_merge_is_due { Follows (made (silent 1 (command.Step 1)) moved_state ∷ []) merging_state (answered 1 (command.Step 1) (reply.Cursor type.Int (small_key 5))) merging_state (Some (reply.Cursor type.Int (small_key 5))) → ⊥ }
+    ensures never_at_the_end { Follows (made (silent 1 (command.Step 1)) moved_state ∷ []) all_moved_state (answered 1 (command.Step 1) (reply.Cursor type.Int (small_key 10))) all_moved_state (Some (reply.Cursor type.Int (small_key 10))) → ⊥ }
+    ensures never_in_a_batch { Follows (made (silent 1 (command.Step 1)) moved_state ∷ []) copying_state (answered 1 (command.Step 1) (reply.Cursor type.Int (small_key 0))) copying_state (Some (reply.Cursor type.Int (small_key 0))) → ⊥ }
+    ensures never_with_a_change { Follows (made (silent 1 (command.Step 1)) moved_state ∷ []) between_state (answered 1 (command.Step 1) (reply.Cursor type.Int (small_key 5))) (with_map between_state map_n) (Some (reply.Cursor type.Int (small_key 5))) → ⊥ }
+{}
+
+/// `done J` comes right after the finish of the job.
+pub fn jobs_done()
+    ensures after_the_finish { Follows (made (silent 1 (command.Step 1)) all_moved_state ∷ made (silent 1 (command.Step 1)) moved_state ∷ []) finished_state (answered 1 (command.Step 1) (reply.Done 1)) finished_state (Some (reply.Done 1)) }
+    ensures run_of_two_batches { Follows (made (silent 1 (command.Run 1)) all_moved_state ∷ made (silent 1 (command.Run 1)) moved_state ∷ made (silent 1 (command.Run 1)) moved_state ∷ []) finished_state (answered 1 (command.Run 1) (reply.Done 1)) finished_state (Some (reply.Done 1)) }
+    ensures never_step_of_two_batches { Follows (made (silent 1 (command.Step 1)) all_moved_state ∷ made (silent 1 (command.Step 1)) moved_state ∷ made (silent 1 (command.Step 1)) moved_state ∷ []) finished_state (answered 1 (command.Step 1) (reply.Done 1)) finished_state (Some (reply.Done 1)) → ⊥ }
+    ensures never_where_the_job_stands { Follows (made (silent 1 (command.Step 1)) moved_state ∷ []) between_state (answered 1 (command.Step 1) (reply.Done 1)) between_state (Some (reply.Done 1)) → ⊥ }
+    ensures never_after_nothing { Follows [] finished_state (answered 1 (command.Step 1) (reply.Done 1)) finished_state (Some (reply.Done 1)) → ⊥ }
+    ensures never_of_another_number { Follows (made (silent 1 (command.Step 1)) all_moved_state ∷ []) finished_state (answered 1 (command.Step 1) (reply.Done 2)) finished_state (Some (reply.Done 2)) → ⊥ }
+    ensures never_with_a_change { Follows (made (silent 1 (command.Step 1)) all_moved_state ∷ []) finished_state (answered 1 (command.Step 1) (reply.Done 1)) (with_map finished_state map_n) (Some (reply.Done 1)) → ⊥ }
 {}
