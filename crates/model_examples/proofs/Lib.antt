@@ -1,3 +1,5 @@
+pub mod Faults
 pub mod JobStates
 pub mod Lookups
 pub mod Maps
+pub mod NearStates

@@ -1,5 +1,5 @@
 -- The command `map` on a state without maps, and states with other maps.
-use Rattle.std.proofs.Common.{◌≡◌, Bool, true, false, refl, sym, ap, ◌∙◌, is_some}
+use Rattle.std.proofs.Common.{◌≡◌, Bool, true, false, refl, sym, ap, ◌∙◌, Some, None, is_some}
 use Rattle.std.specs.FinMap as fin
 use Rattle.cell_world.specs.Texts.{Text}
 use Rattle.cell_world.specs.ByteOrder.{byte_cmp, byte_cmp_total}
@@ -47,3 +47,11 @@ makes_m held_then = rw (fin.get-empty byte_cmp map_m, fin.len-empty byte_cmp (Ma
 
 pub makes_m_once : (held_then : Held) → plain_step held_then (with_map empty_state map_m) 1 (make_map map_m) ≡ (with_map empty_state map_m, reply.Refused refused.MapExists)
 makes_m_once held_then = map_refused held_then (with_map empty_state map_m) 1 map_m kind.Range Int (has_it empty_state map_m)
+
+pub m_accepted : refusal empty_state 1 (make_map map_m) ≡ None
+unfolding refusal
+m_accepted = rw (fin.get-empty byte_cmp map_m, fin.len-empty byte_cmp (MapKind × KeyType)) refl
+
+pub m_refused : refusal (with_map empty_state map_m) 1 (make_map map_m) ≡ Some refused.MapExists
+unfolding refusal
+m_refused = rw (has_it empty_state map_m) refl

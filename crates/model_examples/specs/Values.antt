@@ -1,11 +1,13 @@
 -- Small values for the examples: two sites, the map m of small numbers, and a job that moves a range of it.
-use Rattle.std.specs.Prelude.{ℕ, List, [], ◌∷◌, Option, Some, None, codes, map}
+use Rattle.std.specs.Prelude.{ℕ, Bool, List, [], ◌∷◌, Option, Some, None, codes, map}
 use Rattle.std.specs.FinMap as fin
 use Rattle.std.specs.FinSet as set
 use Rattle.cell_world.specs.Texts.{Text}
-use Rattle.cell_world.specs.Stores.{Maps, Mappings, Jobs, AwaySites, piece_key}
-use Rattle.cell_world.specs.Plain.{PlainState, holds_nothing, nobody}
+use Rattle.cell_world.specs.Stores.{Maps, Mappings, Jobs, AwaySites, Locals, Rows, piece_key, local_key}
+use Rattle.cell_world.specs.Plain.{PlainState, Held, Connections, holds_nothing, nobody}
 use Rattle.cell_world.specs.declared.cells.Away.{Away}
+use Rattle.cell_world.specs.declared.cells.LocalRow.{LocalRow}
+use Rattle.cell_world.specs.declared.cells.RowName.{RowName}
 use Rattle.cell_world.specs.declared.cells.KeyType.{KeyType}
 use Rattle.cell_world.specs.declared.cells.KeyType.TheVariants.{Int}
 use Rattle.cell_world.specs.declared.cells.MapKind.{MapKind}
@@ -22,6 +24,7 @@ use Rattle.plain_model.specs.declared.commands.Command.TheVariants as command
 use Rattle.plain_model.specs.declared.replies.Reply.{Reply}
 use Rattle.plain_model.specs.declared.history.Entry.{Entry}
 use Rattle.plain_model.specs.Timelines.{Made}
+use Rattle.plain_model.specs.Steps.{with_held, with_connection}
 use Rattle.plain_model.specs.Worked.{small_key, small_range, mapping_over, mapping_with}
 
 -- ---- names and locations
@@ -109,6 +112,44 @@ with_map s name = record s { maps = fin.insert s.maps name (kind.Range, Int) }
 -- the map m with these mappings and jobs
 abbrev pub state_with : List Piece → List JobRow → PlainState
 state_with pieces jobs = record empty_state { maps = maps_m; mappings = mappings_of pieces; jobs = jobs_of jobs }
+
+-- ---- sites that are away
+
+-- the site `s/a` is in this state, and the other one is attached
+abbrev pub away_state : Away → PlainState
+away_state state = record empty_state { away = away_of ((site_a, state) ∷ []) }
+
+-- `s/a` holds this
+abbrev pub holding : PlainState → Held → PlainState
+holding s h = record s { held = with_held s.held site_a h }
+
+abbrev pub keyed_locals : List LocalRow → List ((Text × (Text × ℕ)) × LocalRow)
+keyed_locals rows = map (λ row. (local_key row, row)) rows
+
+abbrev pub locals_of : List LocalRow → Locals
+locals_of rows = fin.from_sorted (keyed_locals rows)
+
+-- these local rows, and no row
+abbrev pub local_rows : List LocalRow → Held
+local_rows rows = record { locals = locals_of rows; rows = fin.empty }
+
+-- a row of the table t of m
+abbrev pub row_m : ℕ → RowName
+row_m key = record { map = map_m; key = small_key key; table = codes "t"; number = 1 }
+
+-- one row with one byte, and no local row
+abbrev pub one_row : Held
+one_row = record { locals = fin.empty; rows = fin.from_sorted ((row_m 5, 1 ∷ []) ∷ []) }
+
+-- ---- connections
+
+-- session 1 has connection 1, to the key 5 of m at `s/a`, live or ended
+abbrev pub one_connection : Bool → Connections
+one_connection live = with_connection nobody 1 1 (Some (record { map = map_m; key = small_key 5; location = site_a; live = live }))
+
+-- the mapping [0, 10) is online at `s/a`, and a connection to one of its keys is live or ended
+abbrev pub connected_state : Bool → PlainState
+connected_state live = record (state_with (mapping_over (small_range 0 10) Online ∷ []) []) { connections = one_connection live }
 
 -- ---- a job
 

@@ -1,5 +1,7 @@
 //! Examples of which entries follow a state, by the reply.
-ghost use Rattle.std.specs.Prelude.{[], ◌∷◌, Some, None};
+ghost use Rattle.std.specs.Prelude.{[], ◌∷◌, Some, None, true, false, codes};
+ghost use Rattle.cell_world.specs.Plain.{holds_nothing};
+ghost use Rattle.cell_world.specs.declared.cells.Away.TheVariants.{Detached, Suspect};
 ghost use Rattle.cell_world.specs.declared.cells.KeyType.TheVariants as type;
 ghost use Rattle.cell_world.specs.declared.cells.Status.TheVariants.{Online, Offline};
 ghost use Rattle.cell_world.specs.declared.operations.Extra.TheVariants as extra;
@@ -10,9 +12,9 @@ ghost use Rattle.plain_model.specs.declared.replies.Reply.TheVariants as reply;
 ghost use Rattle.plain_model.specs.declared.replies.Refusal.TheVariants as refused;
 ghost use Rattle.plain_model.specs.Follows.{Follows};
 ghost use Rattle.plain_model.specs.JobSteps.{with_extra};
-ghost use Rattle.plain_model.specs.Steps.{exchanging};
+ghost use Rattle.plain_model.specs.Steps.{plain_step, exchanging};
 ghost use Rattle.plain_model.specs.Worked.{small_key};
-ghost use Rattle.model_examples.specs.Values.{map_m, map_n, site_a, site_b, make_map, answered, silent, made, empty_state, with_map, job_at, job_piece, fresh_state, copying_state, moved_state, between_state, merging_state, all_moved_state, finished_state};
+ghost use Rattle.model_examples.specs.Values.{map_m, map_n, away_state, holding, one_row, connected_state, site_a, site_b, make_map, answered, silent, made, empty_state, with_map, job_at, job_piece, fresh_state, copying_state, moved_state, between_state, merging_state, all_moved_state, finished_state};
 
 /// An answer or a refusal is the plain step's, and so is the state.
 pub fn plain_answers()
@@ -79,4 +81,60 @@ pub fn jobs_done()
     ensures never_after_nothing { Follows [] finished_state (answered 1 (command.Step 1) (reply.Done 1)) finished_state (Some (reply.Done 1)) → ⊥ }
     ensures never_of_another_number { Follows (made (silent 1 (command.Step 1)) all_moved_state ∷ []) finished_state (answered 1 (command.Step 1) (reply.Done 2)) finished_state (Some (reply.Done 2)) → ⊥ }
     ensures never_with_a_change { Follows (made (silent 1 (command.Step 1)) all_moved_state ∷ []) finished_state (answered 1 (command.Step 1) (reply.Done 1)) (with_map finished_state map_n) (Some (reply.Done 1)) → ⊥ }
+{}
+
+/// `pending P` comes to a command that would not be refused, and changes nothing. (That P is in the way is said of the trail.)
+pub fn pending()
+    ensures accepted { Follows [] empty_state (answered 1 (make_map map_m) (reply.Pending 1)) empty_state (Some (reply.Pending 1)) }
+    ensures never_where_it_is_refused { Follows [] (with_map empty_state map_m) (answered 1 (make_map map_m) (reply.Pending 1)) (with_map empty_state map_m) (Some (reply.Pending 1)) → ⊥ }
+    ensures never_to_a_step { Follows [] fresh_state (answered 1 (command.Step 1) (reply.Pending 1)) fresh_state (Some (reply.Pending 1)) → ⊥ }
+    ensures never_with_a_change { Follows [] empty_state (answered 1 (make_map map_m) (reply.Pending 1)) (with_map empty_state map_m) (Some (reply.Pending 1)) → ⊥ }
+{}
+
+/// After a fault the command was done as a whole or not at all.
+pub fn faults()
+    ensures not_done { Follows [] empty_state (answered 1 (make_map map_m) reply.Fault) empty_state (Some reply.Fault) }
+    ensures done { Follows [] empty_state (answered 1 (make_map map_m) reply.Fault) (with_map empty_state map_m) (Some reply.Fault) }
+    ensures never_another_change { Follows [] empty_state (answered 1 (make_map map_m) reply.Fault) (with_map empty_state map_n) (Some reply.Fault) → ⊥ }
+    ensures never_where_it_is_refused { Follows [] (with_map empty_state map_m) (answered 1 (make_map map_m) reply.Fault) empty_state (Some reply.Fault) → ⊥ }
+{}
+
+/// A fault of `attach`, `clear` or `detach` may leave what a detached site holds another.
+pub fn faults_of_recovery()
+    ensures attach_not_done { Follows [] (away_state Detached) (answered 1 (command.Attach site_a) reply.Fault) (away_state Detached) (Some reply.Fault) }
+    ensures attach_holds_other { Follows [] (away_state Detached) (answered 1 (command.Attach site_a) reply.Fault) (holding (away_state Detached) one_row) (Some reply.Fault) }
+    ensures attach_never_a_map { Follows [] (away_state Detached) (answered 1 (command.Attach site_a) reply.Fault) (with_map (away_state Detached) map_n) (Some reply.Fault) → ⊥ }
+    ensures clear_not_done { Follows [] (away_state Suspect) (answered 1 (command.Clear site_a) reply.Fault) (away_state Suspect) (Some reply.Fault) }
+    ensures clear_never_a_map { Follows [] (away_state Suspect) (answered 1 (command.Clear site_a) reply.Fault) (with_map (away_state Suspect) map_n) (Some reply.Fault) → ⊥ }
+    ensures detach_not_done { Follows [] empty_state (answered 1 (command.Detach site_a) reply.Fault) empty_state (Some reply.Fault) }
+    ensures detach_done { Follows [] empty_state (answered 1 (command.Detach site_a) reply.Fault) ((plain_step one_row empty_state 1 (command.Detach site_a)).0) (Some reply.Fault) }
+    ensures detach_never_a_map { Follows [] empty_state (answered 1 (command.Detach site_a) reply.Fault) (with_map empty_state map_n) (Some reply.Fault) → ⊥ }
+{}
+
+/// A faulted `offline` may besides have ended the connections of its mapping.
+pub fn faults_of_offline()
+    ensures not_done { Follows [] (connected_state true) (answered 1 (command.Offline map_m (codes "5") None) reply.Fault) (connected_state true) (Some reply.Fault) }
+    ensures done { Follows [] (connected_state true) (answered 1 (command.Offline map_m (codes "5") None) reply.Fault) ((plain_step holds_nothing (connected_state true) 1 (command.Offline map_m (codes "5") None)).0) (Some reply.Fault) }
+    ensures connections_ended { Follows [] (connected_state true) (answered 1 (command.Offline map_m (codes "5") None) reply.Fault) (connected_state false) (Some reply.Fault) }
+    ensures never_another_change { Follows [] (connected_state true) (answered 1 (command.Offline map_m (codes "5") None) reply.Fault) (with_map (connected_state true) map_n) (Some reply.Fault) → ⊥ }
+    ensures others_end_none { Follows [] (connected_state true) (answered 1 (command.Find map_m (codes "5")) reply.Fault) (connected_state false) (Some reply.Fault) → ⊥ }
+{}
+
+/// A fault in a job leaves the state before the step or after it.
+pub fn faults_in_a_job()
+    ensures not_done { Follows [] copying_state (answered 1 (command.Step 1) reply.Fault) copying_state (Some reply.Fault) }
+    ensures done { Follows [] copying_state (answered 1 (command.Step 1) reply.Fault) (with_extra (exchanging copying_state (job_piece 0 5 site_a Offline ∷ [], job_piece 0 5 site_b Offline ∷ [])) (extra.JobPut (job_at 0 (Moved (At (small_key 5)))))) (Some reply.Fault) }
+    ensures never_two_steps { Follows [] copying_state (answered 1 (command.Step 1) reply.Fault) between_state (Some reply.Fault) → ⊥ }
+    ensures never_another_change { Follows [] copying_state (answered 1 (command.Step 1) reply.Fault) (with_map copying_state map_n) (Some reply.Fault) → ⊥ }
+{}
+
+/// A command that found no memory wasn't done.
+pub fn memory()
+    ensures not_done { Follows [] empty_state (answered 1 (make_map map_m) reply.Memory) empty_state (Some reply.Memory) }
+    ensures never_done { Follows [] empty_state (answered 1 (make_map map_m) reply.Memory) (with_map empty_state map_m) (Some reply.Memory) → ⊥ }
+    ensures attach_holds_other { Follows [] (away_state Detached) (answered 1 (command.Attach site_a) reply.Memory) (holding (away_state Detached) one_row) (Some reply.Memory) }
+    ensures attach_never_a_map { Follows [] (away_state Detached) (answered 1 (command.Attach site_a) reply.Memory) (with_map (away_state Detached) map_n) (Some reply.Memory) → ⊥ }
+    ensures clear_not_done { Follows [] (away_state Suspect) (answered 1 (command.Clear site_a) reply.Memory) (away_state Suspect) (Some reply.Memory) }
+    ensures clear_never_a_map { Follows [] (away_state Suspect) (answered 1 (command.Clear site_a) reply.Memory) (with_map (away_state Suspect) map_n) (Some reply.Memory) → ⊥ }
+    ensures detach_never_holds_other { Follows [] (away_state Detached) (answered 1 (command.Detach site_a) reply.Memory) (holding (away_state Detached) one_row) (Some reply.Memory) → ⊥ }
 {}

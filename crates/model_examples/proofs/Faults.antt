@@ -1,0 +1,46 @@
+-- What the plain step leaves, whether the command is refused or done.
+use Rattle.std.proofs.Common.{◌≡◌, ℕ, Bool, true, false, cond, refl, sym, ap, ◌∙◌, Some, None, Option, [], ◌∷◌, ◌&&◌}
+use Rattle.std.specs.Prelude.{◌==◌, option_map, codes}
+use Rattle.cell_world.specs.KeyForms.{normal_of}
+use Rattle.cell_world.specs.Orders.{pair_cmp}
+use Rattle.cell_world.specs.Plain.{PlainState, Held, Connection}
+use Rattle.cell_world.specs.declared.cells.Status.TheVariants.{Online}
+use Rattle.plain_model.specs.declared.commands.Command.{Command}
+use Rattle.plain_model.specs.declared.commands.Command.TheVariants as command
+use Rattle.plain_model.specs.declared.replies.Refusal.{Refusal}
+use Rattle.plain_model.specs.JobSteps.{with_ended}
+use Rattle.plain_model.specs.Refusing.{refusal, mapping_of, if_there}
+use Rattle.plain_model.specs.Steps.{plain_step, refused_or_done, accepted}
+use Rattle.plain_model.specs.Worked.{small_key, small_range, mapping_over}
+use Rattle.model_examples.specs.Values.{map_m, site_a, keyed_pieces, connected_state, one_connection}
+use Rattle.model_examples.proofs.Lookups.{entries_of}
+use Rattle.model_examples.proofs.JobStates.{m_stands}
+
+-- what an accepted command leaves is left by a refused one too
+pub keeps : {X : Type 0} (part : PlainState → X) (held_then : Held) (s : PlainState) (i : ℕ) (c : Command) → part (accepted held_then s i c).0 ≡ part s → part (plain_step held_then s i c).0 ≡ part s
+keeps {X} part held_then s i c kept = by (refusal s i c)
+  where
+    by : (r : Option Refusal) → part (refused_or_done held_then s i c r).0 ≡ part s
+    by None = kept
+    by (Some r) = refl
+
+-- ---- the connection
+
+-- connection 1 of session 1 is live
+abbrev pub is_live : PlainState → Bool
+is_live s = if_there (λ (c : Connection). c.live) (s.connections 1 1)
+
+pub owner_of_5 : (live : Bool) → mapping_of (connected_state live) map_m (codes "5") ≡ Some (mapping_over (small_range 0 10) Online)
+unfolding normal_of
+owner_of_5 live = rw (m_stands, m_stands, entries_of pair_cmp (keyed_pieces (mapping_over (small_range 0 10) Online ∷ [])) tt) refl
+
+-- the connection of the mapping is ended
+pub ends_it : with_ended (connected_state true) (Some (mapping_over (small_range 0 10) Online)) ≡ connected_state false
+ends_it i = record (connected_state true) { connections = λ session number. by ((session == 1) && (number == 1)) i }
+  where
+    connection : Bool → Connection
+    connection live = record { map = map_m; key = small_key 5; location = site_a; live = live }
+
+    by : (b : Bool) → option_map (λ (c : Connection). record c { live = false }) (cond b (Some (connection true)) None) ≡ cond b (Some (connection false)) None
+    by true = refl
+    by false = refl
