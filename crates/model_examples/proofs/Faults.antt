@@ -1,6 +1,6 @@
 -- What the plain step leaves, whether the command is refused or done.
 use Rattle.std.proofs.Common.{◌≡◌, ℕ, Bool, true, false, cond, refl, sym, ap, ◌∙◌, Some, None, Option, [], ◌∷◌, ◌&&◌}
-use Rattle.std.specs.Prelude.{◌==◌, option_map, codes}
+use Rattle.std.specs.Prelude.{◌==◌, codes}
 use Rattle.cell_world.specs.KeyForms.{normal_of}
 use Rattle.cell_world.specs.Orders.{pair_cmp}
 use Rattle.cell_world.specs.Plain.{PlainState, Held, Connection}
@@ -10,7 +10,7 @@ use Rattle.plain_model.specs.declared.commands.Command.TheVariants as command
 use Rattle.plain_model.specs.declared.replies.Refusal.{Refusal}
 use Rattle.plain_model.specs.JobSteps.{with_ended}
 use Rattle.plain_model.specs.Refusing.{refusal, mapping_of, if_there}
-use Rattle.plain_model.specs.Steps.{plain_step, refused_or_done, accepted}
+use Rattle.plain_model.specs.Steps.{plain_step, refused_or_done, accepted, ended_under}
 use Rattle.plain_model.specs.Worked.{small_key, small_range, mapping_over}
 use Rattle.model_examples.specs.Values.{map_m, site_a, keyed_pieces, connected_state, one_connection}
 use Rattle.model_examples.proofs.Lookups.{entries_of}
@@ -41,6 +41,6 @@ ends_it i = record (connected_state true) { connections = λ session number. by 
     connection : Bool → Connection
     connection live = record { map = map_m; key = small_key 5; location = site_a; live = live }
 
-    by : (b : Bool) → option_map (λ (c : Connection). record c { live = false }) (cond b (Some (connection true)) None) ≡ cond b (Some (connection false)) None
+    by : (b : Bool) → ended_under (Some (mapping_over (small_range 0 10) Online)) (λ session number. cond b (Some (connection true)) None) 1 1 ≡ cond b (Some (connection false)) None
     by true = refl
     by false = refl
