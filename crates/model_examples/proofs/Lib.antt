@@ -3,3 +3,4 @@ pub mod JobStates
 pub mod Lookups
 pub mod Maps
 pub mod NearStates
+pub mod Operations

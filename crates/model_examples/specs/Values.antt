@@ -1,11 +1,14 @@
 -- Small values for the examples: two sites, the map m of small numbers, and a job that moves a range of it.
-use Rattle.std.specs.Prelude.{ℕ, Bool, List, [], ◌∷◌, Option, Some, None, codes, map}
+use Rattle.std.specs.Prelude.{ℕ, ◌+◌, Bool, true, List, [], ◌∷◌, Option, Some, None, codes, map}
 use Rattle.std.specs.FinMap as fin
 use Rattle.std.specs.FinSet as set
 use Rattle.cell_world.specs.Texts.{Text}
-use Rattle.cell_world.specs.Stores.{Maps, Mappings, Jobs, AwaySites, Locals, Rows, piece_key, local_key}
+use Rattle.cell_world.specs.Stores.{Store, empty_store, Maps, Mappings, Jobs, AwaySites, Locals, Rows, piece_key, local_key}
+use Rattle.cell_world.specs.Images.{Image, Global, Shard, Happening, Committed, Reopened, empty_image, with_store}
 use Rattle.cell_world.specs.Plain.{PlainState, Held, Connections, holds_nothing, nobody}
 use Rattle.cell_world.specs.declared.cells.Away.{Away}
+use Rattle.cell_world.specs.declared.cells.Away.TheVariants.{Detached}
+use Rattle.cell_world.specs.declared.cells.Cell.TheVariants as cell
 use Rattle.cell_world.specs.declared.cells.LocalRow.{LocalRow}
 use Rattle.cell_world.specs.declared.cells.RowName.{RowName}
 use Rattle.cell_world.specs.declared.cells.KeyType.{KeyType}
@@ -16,11 +19,17 @@ use Rattle.cell_world.specs.declared.cells.Status.{Status}
 use Rattle.cell_world.specs.declared.cells.Status.TheVariants.{Online, Offline}
 use Rattle.cell_world.specs.declared.operations.Piece.{Piece}
 use Rattle.cell_world.specs.declared.operations.JobRow.{JobRow}
+use Rattle.cell_world.specs.declared.operations.Op.{Op}
+use Rattle.cell_world.specs.declared.operations.Pieces.{Pieces}
+use Rattle.cell_world.specs.declared.operations.Extra.TheVariants as extra
 use Rattle.cell_world.specs.declared.operations.Phase.{Phase}
 use Rattle.cell_world.specs.declared.operations.Phase.TheVariants.{Idle, Copying, Moved}
 use Rattle.cell_world.specs.declared.spans.High.TheVariants.{At}
+use Rattle.cell_world.specs.declared.changes.Edit.{Edit}
+use Rattle.cell_world.specs.declared.changes.Edit.TheVariants.{Put}
 use Rattle.plain_model.specs.declared.commands.Command.{Command}
 use Rattle.plain_model.specs.declared.commands.Command.TheVariants as command
+use Rattle.plain_model.specs.declared.commands.HighText.TheVariants as word
 use Rattle.plain_model.specs.declared.replies.Reply.{Reply}
 use Rattle.plain_model.specs.declared.history.Entry.{Entry}
 use Rattle.plain_model.specs.Timelines.{Made}
@@ -188,3 +197,64 @@ all_moved_state = state_with (job_piece 0 10 site_b Online ∷ []) (job_at 10 Id
 -- the job is gone
 abbrev pub finished_state : PlainState
 finished_state = state_with (record (mapping_over (small_range 0 10) Online) { location = site_b } ∷ []) []
+
+-- ---- images
+
+-- the two sites, without a cell
+abbrev pub two_sites : Image
+two_sites = empty_image (site_a ∷ site_b ∷ [])
+
+-- the two sites, with these cells in the global store
+abbrev pub with_global : Store → Image
+with_global store = with_store two_sites Global store
+
+-- `s/a` has these cells
+abbrev pub with_cells : Image → Store → Image
+with_cells image store = with_store image (Shard site_a) store
+
+-- a site's cells: no local row, and one row
+abbrev pub row_cells : Store
+row_cells = record empty_store { locals = locals_of []; rows = one_row.rows }
+
+-- a site's cells: these local rows
+abbrev pub local_cells : List LocalRow → Store
+local_cells rows = record empty_store { locals = locals_of rows }
+
+-- in the global store: the site `s/a` is detached
+abbrev pub detached_store : Store
+detached_store = record empty_store { away = away_of ((site_a, Detached) ∷ []) }
+
+-- ---- operations
+
+abbrev pub no_pieces : Pieces
+no_pieces = record { one = None; two = None }
+
+abbrev pub one_piece : Piece → Pieces
+one_piece p = record { one = Some p; two = None }
+
+abbrev pub two_pieces : Piece → Piece → Pieces
+two_pieces p q = record { one = Some p; two = Some q }
+
+-- an add of a range of m at `s/a`
+abbrev pub add_op : ℕ → ℕ → ℕ → Op
+add_op number low high = record { number = number; map = map_m; hull = small_range low high; olds = no_pieces; news = one_piece (mapping_over (small_range low high) Online); extra = extra.None }
+
+-- [0, 10) of m is taken offline at `s/a`
+abbrev pub offline_op : ℕ → Op
+offline_op number = record { number = number; map = map_m; hull = small_range 0 10; olds = one_piece (mapping_over (small_range 0 10) Online); news = one_piece (mapping_over (small_range 0 10) Offline); extra = extra.None }
+
+-- the log cell of an operation is put, with the counter at the number after it
+abbrev pub logging : Op → List Edit
+logging op = Put (cell.Log op) ∷ Put (cell.Counter (record { operation = op.number + 1; job = 1 })) ∷ []
+
+-- that was tried, and it took or it didn't
+abbrev pub tried : Op → Bool → Happening
+tried op took = Committed Global (logging op) took
+
+-- the command `add m 0 10 s/a`
+abbrev pub add_0_10 : Command
+add_0_10 = command.Add map_m (codes "0") (word.At (codes "10")) site_a
+
+-- the command `offline m 5`
+abbrev pub offline_5 : Command
+offline_5 = command.Offline map_m (codes "5") None

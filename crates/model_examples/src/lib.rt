@@ -2,3 +2,4 @@
 #![tactic(auto)]
 
 pub mod follows;
+pub mod on_trail;

@@ -1,0 +1,58 @@
+use Rattle.std.proofs.Common.{◌≡◌, true, false, refl, sym, ap, ◌∙◌, subst, Option, Some, List, ◌∷◌, [], ⊎_elim}
+use Rattle.std.proofs.lemmas.Cmp.{nat_cmp_total}
+use Rattle.std.specs.FinMap as fin
+use Rattle.cell_world.specs.Texts.{Text}
+use Rattle.cell_world.specs.Keys.{same}
+use Rattle.cell_world.specs.Jobs.{Step, Replace}
+use Rattle.cell_world.specs.Orders.{pair_cmp}
+use Rattle.cell_world.specs.Plain.{PlainState}
+use Rattle.cell_world.specs.declared.cells.Status.TheVariants.{Online, Offline}
+use Rattle.cell_world.specs.declared.operations.Piece.{Piece}
+use Rattle.cell_world.specs.declared.operations.JobRow.{JobRow}
+use Rattle.cell_world.specs.declared.operations.Phase.TheVariants.{Copying, Moved}
+use Rattle.cell_world.specs.declared.spans.High.TheVariants.{At}
+use Rattle.plain_model.specs.declared.commands.Command.TheVariants as command
+use Rattle.plain_model.specs.declared.replies.Reply.TheVariants as reply
+use Rattle.plain_model.specs.JobSteps.{TakesJobStep, stepped, is_moved}
+use Rattle.plain_model.specs.OnTrail.{FaultOnTrail, FaultInJob, IsOfflineNow}
+use Rattle.plain_model.specs.Refusing.{if_there}
+use Rattle.plain_model.specs.Worked.{small_key}
+use Rattle.model_examples.specs.Values.{site_a, site_b, answered, one_connection, job_at, job_piece, keyed_pieces, copying_state}
+use Rattle.model_examples.proofs.Lookups.{entries_of, differ}
+use Rattle.model_examples.proofs.JobStates.{m_stands, job_stands, the_move, is_batch_moved}
+use Rattle.model_examples.proofs.Faults.{is_live}
+use Rattle.model_examples.proofs.on_trail.causes_in_a_job.Goals as goal
+
+abbrev copying : JobRow
+copying = job_at 0 (Copying (At (small_key 5)))
+
+abbrev with_live : PlainState
+with_live = record copying_state { connections = one_connection true }
+
+abbrev with_ended : PlainState
+with_ended = record copying_state { connections = one_connection false }
+
+-- the move makes another phase
+not_moved : TakesJobStep with_live with_ended copying → ⊥
+not_moved t =
+    let row : the_move ≡ t.step = rw (m_stands, entries_of pair_cmp (keyed_pieces (job_piece 0 5 site_a Offline ∷ job_piece 5 10 site_a Online ∷ [])) tt) at t.row in
+    let e = ap (stepped with_live copying) row ∙ t.after in
+    differ (if_there is_batch_moved) _ _ e
+    (ap (if_there (λ (job : JobRow). is_moved job.phase)) (fin.get-insert nat_cmp_total copying_state.jobs 1 (job_at 0 (Moved (At (small_key 5)))) 1))
+    (ap (if_there (λ (job : JobRow). is_moved job.phase)) (job_stands 0 (Copying (At (small_key 5)))))
+
+-- and it is no offline
+no_offline : (p : Piece) → IsOfflineNow with_live copying p → ⊥
+no_offline p now =
+    let e : the_move ≡ Replace (p ∷ []) (record p { status = Offline } ∷ []) now.0 = rw (m_stands, entries_of pair_cmp (keyed_pieces (job_piece 0 5 site_a Offline ∷ job_piece 5 10 site_a Online ∷ [])) tt) at now.1 in
+    let old : job_piece 0 5 site_a Offline ≡ p = cc in
+    let new : job_piece 0 5 site_b Offline ≡ record p { status = Offline } = cc in
+    differ (same site_b) site_b site_a (ap (λ (q : Piece). q.location) new ∙ ap (λ (q : Piece). q.location) (sym old)) refl refl
+
+pub returns-clause-never_ended_at_the_move : goal.returns-clause-never_ended_at_the_move
+returns-clause-never_ended_at_the_move c f =
+    let g : FaultInJob [] (answered 1 (command.Step 1) reply.Fault) with_live with_ended copying = subst (FaultOnTrail [] (answered 1 (command.Step 1) reply.Fault) with_live with_ended (command.Step 1)) (job_stands 0 (Copying (At (small_key 5)))) f in
+    ⊎_elim
+    (λ e. differ is_live _ _ (sym e) refl refl)
+    (⊎_elim not_moved (λ h. ⊎_elim (no_offline h.0) (λ tried. tried) h.1))
+    g.cause
