@@ -23,7 +23,7 @@ use Rattle.plain_model.specs.JobSteps.{TakesJobStep, stepped, with_extra, is_mov
 use Rattle.plain_model.specs.Refusing.{refusal, type_of_map, if_there}
 use Rattle.plain_model.specs.Steps.{plain_step, refused_or_done, exchanging}
 use Rattle.plain_model.specs.Worked.{small_key}
-use Rattle.model_examples.specs.Values.{map_m, map_n, site_a, site_b, entries_m, maps_m, keyed_pieces, numbered_jobs, jobs_of, with_map, state_with, job_at, job_piece, copying_state}
+use Rattle.model_examples.specs.Values.{map_m, map_n, site_a, site_b, entries_m, maps_m, keyed_pieces, numbered_jobs, jobs_of, with_map, state_with, job_at, job_piece, copying_state, after_move}
 use Rattle.model_examples.proofs.Lookups.{get_of, entries_of, differ}
 use Rattle.model_examples.proofs.Maps.{has_map, has_it}
 
@@ -67,9 +67,6 @@ step_answers held_then pieces cursor phase B answer e =
 -- job 1 is in phase Moved
 abbrev pub is_batch_moved : PlainState → Bool
 is_batch_moved s = if_there (λ (job : JobRow). is_moved job.phase) (fin.get s.jobs 1)
-
-abbrev pub after_move : PlainState
-after_move = with_extra (exchanging copying_state (job_piece 0 5 site_a Offline ∷ [], job_piece 0 5 site_b Offline ∷ [])) (extra.JobPut (job_at 0 (Moved (At (small_key 5)))))
 
 abbrev pub the_move : Step
 the_move = Replace (job_piece 0 5 site_a Offline ∷ []) (job_piece 0 5 site_b Offline ∷ []) (extra.JobPut (job_at 0 (Moved (At (small_key 5)))))

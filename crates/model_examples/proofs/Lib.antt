@@ -1,6 +1,9 @@
+pub mod Closing
 pub mod Faults
 pub mod JobStates
+pub mod LegalRuns
 pub mod Lookups
 pub mod Maps
 pub mod NearStates
 pub mod Operations
+pub mod Planned

@@ -4,7 +4,7 @@ use Rattle.std.specs.FinMap as fin
 use Rattle.std.specs.FinSet as set
 use Rattle.cell_world.specs.Texts.{Text}
 use Rattle.cell_world.specs.Stores.{Store, empty_store, Maps, Mappings, Jobs, AwaySites, Locals, Rows, piece_key, local_key}
-use Rattle.cell_world.specs.Images.{Image, Global, Shard, Happening, Committed, Reopened, empty_image, with_store}
+use Rattle.cell_world.specs.Images.{Image, Trail, Global, Shard, Happening, Committed, Wrote, empty_image, with_store}
 use Rattle.cell_world.specs.Plain.{PlainState, Held, Connections, holds_nothing, nobody}
 use Rattle.cell_world.specs.declared.cells.Away.{Away}
 use Rattle.cell_world.specs.declared.cells.Away.TheVariants.{Detached}
@@ -31,9 +31,13 @@ use Rattle.plain_model.specs.declared.commands.Command.{Command}
 use Rattle.plain_model.specs.declared.commands.Command.TheVariants as command
 use Rattle.plain_model.specs.declared.commands.HighText.TheVariants as word
 use Rattle.plain_model.specs.declared.replies.Reply.{Reply}
+use Rattle.plain_model.specs.declared.replies.Reply.TheVariants as reply
+use Rattle.plain_model.specs.declared.replies.Refusal.TheVariants as refused
 use Rattle.plain_model.specs.declared.history.Entry.{Entry}
 use Rattle.plain_model.specs.Timelines.{Made}
-use Rattle.plain_model.specs.Steps.{with_held, with_connection}
+use Rattle.plain_model.specs.JobSteps.{with_extra}
+use Rattle.plain_model.specs.Legal.{AllGoing}
+use Rattle.plain_model.specs.Steps.{exchanging, with_held, with_connection}
 use Rattle.plain_model.specs.Worked.{small_key, small_range, mapping_over, mapping_with}
 
 -- ---- names and locations
@@ -63,6 +67,10 @@ answered session c r = record { session = session; command = c; reply = Some r; 
 -- an entry of a job's step, which has no reply
 abbrev pub silent : ℕ → Command → Entry
 silent session c = record { session = session; command = c; reply = None; moment = 1; operation = 0 }
+
+-- the entry was made at a moment
+abbrev pub at_moment : Entry → ℕ → Entry
+at_moment e moment = record e { moment = moment }
 
 -- the entry names an operation
 abbrev pub naming : Entry → ℕ → Entry
@@ -178,6 +186,10 @@ fresh_state = state_with (job_piece 0 10 site_a Online ∷ []) (job_at 0 Idle �
 abbrev pub copying_state : PlainState
 copying_state = state_with (job_piece 0 5 site_a Offline ∷ job_piece 5 10 site_a Online ∷ []) (job_at 0 (Copying (At (small_key 5))) ∷ [])
 
+-- the copied batch is moved by the next step
+abbrev pub after_move : PlainState
+after_move = with_extra (exchanging copying_state (job_piece 0 5 site_a Offline ∷ [], job_piece 0 5 site_b Offline ∷ [])) (extra.JobPut (job_at 0 (Moved (At (small_key 5)))))
+
 -- the batch is at the target, not online yet: the next step is its online
 abbrev pub moved_state : PlainState
 moved_state = state_with (job_piece 0 5 site_b Offline ∷ job_piece 5 10 site_a Online ∷ []) (job_at 0 (Moved (At (small_key 5))) ∷ [])
@@ -258,3 +270,49 @@ add_0_10 = command.Add map_m (codes "0") (word.At (codes "10")) site_a
 -- the command `offline m 5`
 abbrev pub offline_5 : Command
 offline_5 = command.Offline map_m (codes "5") None
+
+-- the move of the copied batch, and what split another batch off the range would do
+abbrev pub move_op : Op
+move_op = record { number = 1; map = map_m; hull = small_range 0 5; olds = one_piece (job_piece 0 5 site_a Offline); news = one_piece (job_piece 0 5 site_b Offline); extra = extra.JobPut (job_at 0 (Moved (At (small_key 5)))) }
+
+abbrev pub split_op : Op
+split_op = record { number = 1; map = map_m; hull = small_range 0 10; olds = one_piece (job_piece 0 10 site_a Online); news = two_pieces (job_piece 0 3 site_a Online) (job_piece 3 10 site_a Online); extra = extra.None }
+
+-- the state after that split
+abbrev pub after_split : PlainState
+after_split = exchanging fresh_state (job_piece 0 10 site_a Online ∷ [], job_piece 0 3 site_a Online ∷ job_piece 3 10 site_a Online ∷ [])
+
+-- the stores that stand for such a state, without local rows
+abbrev pub job_image : List Piece → JobRow → Image
+job_image pieces job = with_global (record empty_store { maps = maps_m; mappings = mappings_of pieces; jobs = jobs_of (job ∷ []) })
+
+abbrev pub copying_image : Image
+copying_image = job_image (job_piece 0 5 site_a Offline ∷ job_piece 5 10 site_a Online ∷ []) (job_at 0 (Copying (At (small_key 5))))
+
+abbrev pub fresh_image : Image
+fresh_image = job_image (job_piece 0 10 site_a Online ∷ []) (job_at 0 Idle)
+
+-- ---- trails and histories
+
+-- what happened to two empty sites
+abbrev pub trail_of : List Happening → Trail
+trail_of happened = record { start = two_sites; happened = happened }
+
+abbrev pub nothing_going : AllGoing
+nothing_going session = None
+
+-- the map m is put
+abbrev pub map_commit : Happening
+map_commit = Committed Global (Put (cell.Map map_m kind.Range Int) ∷ []) true
+
+-- that, and the line of its reply
+abbrev pub map_trail : Trail
+map_trail = trail_of (map_commit ∷ Wrote (codes "ok\n") ∷ [])
+
+-- the entry of that `map`, which comes right after its commit
+abbrev pub map_entry : Entry
+map_entry = answered 1 (make_map map_m) reply.Ok
+
+-- a `close` that is refused, at a moment
+abbrev pub closing : ℕ → Entry
+closing moment = at_moment (answered 1 (command.Close 1) (reply.Refused refused.NoConnection)) moment

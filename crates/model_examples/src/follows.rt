@@ -14,7 +14,7 @@ ghost use Rattle.plain_model.specs.Follows.{Follows};
 ghost use Rattle.plain_model.specs.JobSteps.{with_extra};
 ghost use Rattle.plain_model.specs.Steps.{plain_step, exchanging};
 ghost use Rattle.plain_model.specs.Worked.{small_key};
-ghost use Rattle.model_examples.specs.Values.{map_m, map_n, away_state, holding, one_row, connected_state, site_a, site_b, make_map, answered, silent, made, empty_state, with_map, job_at, job_piece, fresh_state, copying_state, moved_state, between_state, merging_state, all_moved_state, finished_state};
+ghost use Rattle.model_examples.specs.Values.{map_m, map_n, away_state, holding, one_row, connected_state, site_a, site_b, make_map, answered, silent, made, empty_state, with_map, job_at, job_piece, fresh_state, copying_state, after_move, moved_state, between_state, merging_state, all_moved_state, finished_state};
 
 /// An answer or a refusal is the plain step's, and so is the state.
 pub fn plain_answers()
@@ -48,8 +48,7 @@ pub fn full_of_numbers()
 
 /// An entry without a reply is the next step of a job.
 pub fn steps_of_jobs()
-    ensures move_there { Follows [] copying_state (silent 1 (command.Step 1))
-        (with_extra (exchanging copying_state (job_piece 0 5 site_a Offline ∷ [], job_piece 0 5 site_b Offline ∷ [])) (extra.JobPut (job_at 0 (Moved (At (small_key 5)))))) None }
+    ensures move_there { Follows [] copying_state (silent 1 (command.Step 1)) after_move None }
     ensures never_without_a_change { Follows [] copying_state (silent 1 (command.Step 1)) copying_state None → ⊥ }
     ensures never_two_steps_at_once { Follows [] copying_state (silent 1 (command.Step 1)) between_state None → ⊥ }
     ensures never_of_a_job_that_is_gone { Follows [] finished_state (silent 1 (command.Step 1)) finished_state None → ⊥ }
@@ -123,7 +122,7 @@ pub fn faults_of_offline()
 /// A fault in a job leaves the state before the step or after it.
 pub fn faults_in_a_job()
     ensures not_done { Follows [] copying_state (answered 1 (command.Step 1) reply.Fault) copying_state (Some reply.Fault) }
-    ensures done { Follows [] copying_state (answered 1 (command.Step 1) reply.Fault) (with_extra (exchanging copying_state (job_piece 0 5 site_a Offline ∷ [], job_piece 0 5 site_b Offline ∷ [])) (extra.JobPut (job_at 0 (Moved (At (small_key 5)))))) (Some reply.Fault) }
+    ensures done { Follows [] copying_state (answered 1 (command.Step 1) reply.Fault) after_move (Some reply.Fault) }
     ensures never_two_steps { Follows [] copying_state (answered 1 (command.Step 1) reply.Fault) between_state (Some reply.Fault) → ⊥ }
     ensures never_another_change { Follows [] copying_state (answered 1 (command.Step 1) reply.Fault) (with_map copying_state map_n) (Some reply.Fault) → ⊥ }
 {}

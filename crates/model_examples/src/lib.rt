@@ -2,4 +2,5 @@
 #![tactic(auto)]
 
 pub mod follows;
+pub mod legal;
 pub mod on_trail;

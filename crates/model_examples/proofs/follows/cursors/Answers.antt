@@ -1,4 +1,4 @@
-use Rattle.std.proofs.Common.{◌≡◌, arith, true, false, refl, sym, ap, ◌∙◌, subst, Some, None, Option, ◌∷◌, []}
+use Rattle.std.proofs.Common.{◌≡◌, ℕ, arith, true, false, refl, sym, ap, ◌∙◌, subst, Some, None, Option, ◌∷◌, []}
 use Rattle.cell_world.specs.Keys.{end_below, same_end}
 use Rattle.cell_world.specs.Jobs.{TableRow, merge_due}
 use Rattle.cell_world.specs.Orders.{pair_cmp}
@@ -41,7 +41,7 @@ pub returns-clause-never_another_key : goal.returns-clause-never_another_key
 returns-clause-never_another_key c f = differ (same_end (At (small_key 5))) _ _ (ap (λ (job : JobRow). job.cursor) (asked_for 5 Idle f.number f.job f.asked f.stands) ∙ f.cursor) refl refl
 
 pub returns-clause-never_after_two_onlines : goal.returns-clause-never_after_two_onlines
-returns-clause-never_after_two_onlines c f = let e : 2 ≡ 1 = rw (job_stands 0 (Moved (At (small_key 5)))) at f.one_online in absurd (omega arith)
+returns-clause-never_after_two_onlines c f = let e : ◌≡◌ {A = ℕ} 2 1 = rw (job_stands 0 (Moved (At (small_key 5)))) at f.one_online in absurd (omega arith)
 
 pub returns-clause-never_after_another_step : goal.returns-clause-never_after_another_step
 returns-clause-never_after_another_step c f = let e : false ≡ true = rw (job_stands 0 (Copying (At (small_key 5)))) at f.just_before.3 in cc

@@ -9,10 +9,10 @@ use Rattle.cell_world.specs.declared.operations.Phase.TheVariants.{Idle, Copying
 use Rattle.cell_world.specs.declared.spans.High.TheVariants.{At}
 use Rattle.plain_model.specs.Refusing.{if_there}
 use Rattle.plain_model.specs.Worked.{small_key}
-use Rattle.model_examples.specs.Values.{map_n, entries_m, job_at, with_map, copying_state, between_state}
+use Rattle.model_examples.specs.Values.{map_n, entries_m, job_at, with_map, copying_state, after_move, between_state}
 use Rattle.model_examples.proofs.Lookups.{get_of, differ}
 use Rattle.model_examples.proofs.Maps.{has_map, has_it}
-use Rattle.model_examples.proofs.JobStates.{job_stands, moves, only_moves, after_move}
+use Rattle.model_examples.proofs.JobStates.{job_stands, moves, only_moves}
 use Rattle.model_examples.proofs.follows.faults_in_a_job.Goals as goal
 
 -- the job's cursor is at 5

@@ -1,0 +1,102 @@
+-- Legal histories on two empty sites, built as they come about.
+use Rattle.std.proofs.Common.{◌≡◌, ℕ, ◌+◌, ◌≤◌, arith, refl, sym, ap, ◌∙◌, Some, None, List, [], ◌∷◌, length}
+use Rattle.std.specs.FinMap as fin
+use Rattle.cell_world.specs.ByteOrder.{byte_cmp}
+use Rattle.cell_world.specs.Images.{Global, Wrote, with_store, global}
+use Rattle.cell_world.specs.Meaning.{meaning}
+use Rattle.cell_world.specs.Plain.{PlainState, nobody, holds_nothing, with_connections}
+use Rattle.cell_world.specs.Stores.{put}
+use Rattle.cell_world.specs.declared.cells.Cell.TheVariants as cell
+use Rattle.cell_world.specs.declared.cells.KeyType.{KeyType}
+use Rattle.cell_world.specs.declared.cells.KeyType.TheVariants.{Int}
+use Rattle.cell_world.specs.declared.cells.MapKind.{MapKind}
+use Rattle.cell_world.specs.declared.cells.MapKind.TheVariants as kind
+use Rattle.cell_world.proofs.EmptyLaws.{empty_sound}
+use Rattle.cell_world.proofs.MapKeepsSound.{meaning-put_map}
+use Rattle.plain_model.specs.declared.replies.Reply.{Reply}
+use Rattle.plain_model.specs.declared.replies.Reply.TheVariants as reply
+use Rattle.plain_model.specs.declared.replies.Refusal.TheVariants as refused
+use Rattle.plain_model.specs.Legal.{Legal, MayEnter}
+use Rattle.plain_model.specs.Timelines.{Timeline, Happened, Entered, image_of, facts_of, happened_of}
+use Rattle.plain_model.proofs.NearLaws.{near_itself}
+use Rattle.model_examples.specs.Values.{site_a, site_b, map_m, two_sites, trail_of, nothing_going, map_trail, map_commit, map_entry, closing}
+use Rattle.std.specs.Prelude.{codes}
+use Rattle.model_examples.proofs.Closing.{not_open, makes_first}
+
+pub no_history : Legal 0 (trail_of []) nothing_going []
+no_history = record { timeline = []; happened = refl; entries = refl; connections = nobody; unfolds = refl; rests = near_itself (meaning two_sites); promises = tt }
+
+-- ---- one map
+
+means_m : meaning (with_store two_sites Global (put (global two_sites) (cell.Map map_m kind.Range Int))) ≡ record (meaning two_sites) { maps = fin.insert fin.empty map_m (kind.Range, Int) }
+means_m = meaning-put_map two_sites (empty_sound (site_a ∷ site_b ∷ [])) map_m kind.Range Int (fin.get-empty byte_cmp map_m)
+
+enters_m : MayEnter 0 two_sites (Happened map_commit ∷ []) map_entry nobody nobody
+enters_m = record {
+  moment = refl;
+  follows = record {
+    held = holds_nothing;
+    step = makes_first holds_nothing (meaning two_sites) (fin.get-empty byte_cmp map_m) (fin.len-empty byte_cmp (MapKind × KeyType)) ∙ ap (λ (s : PlainState). (s, reply.Ok)) (sym means_m);
+  };
+  on_trail = tt;
+  planned = tt;
+}
+
+-- the commit, the entry, and then the line
+pub one_map : Legal 0 map_trail nothing_going (map_entry ∷ [])
+one_map = record {
+  timeline = Happened (Wrote (codes "ok\n")) ∷ Entered map_entry ∷ Happened map_commit ∷ [];
+  happened = refl;
+  entries = refl;
+  connections = nobody;
+  unfolds = ((nobody, (refl, near_itself (meaning two_sites), refl), enters_m), near_itself _, tt);
+  rests = near_itself _;
+  promises = (tt, tt);
+}
+
+-- ---- refused commands
+
+enters_closing : (since : ℕ) (past : Timeline) (moment : ℕ) → moment ≡ since + length (happened_of past) → meaning (image_of two_sites past) ≡ facts_of two_sites past
+    → MayEnter since two_sites past (closing moment) nobody nobody
+enters_closing since past moment now same = record {
+  moment = now;
+  follows = record {
+    held = holds_nothing;
+    step = not_open holds_nothing (with_connections (facts_of two_sites past) nobody) refl ∙ ap (λ (s : PlainState). (with_connections s nobody, reply.Refused refused.NoConnection)) (sym same);
+  };
+  on_trail = tt;
+  planned = tt;
+}
+
+pub two_refusals : Legal 0 (trail_of (Wrote [] ∷ [])) nothing_going (closing 0 ∷ closing 1 ∷ [])
+two_refusals = record {
+  timeline = Entered (closing 1) ∷ Happened (Wrote []) ∷ Entered (closing 0) ∷ [];
+  happened = refl;
+  entries = refl;
+  connections = nobody;
+  unfolds = (nobody, ((nobody, refl, enters_closing 0 [] 0 refl refl), near_itself (meaning two_sites), tt), enters_closing 0 (Happened (Wrote []) ∷ Entered (closing 0) ∷ []) 1 refl refl);
+  rests = near_itself (meaning two_sites);
+  promises = (tt, (tt, tt));
+}
+
+pub later_start : Legal 1 (trail_of []) nothing_going (closing 1 ∷ [])
+later_start = record {
+  timeline = Entered (closing 1) ∷ [];
+  happened = refl;
+  entries = refl;
+  connections = nobody;
+  unfolds = (nobody, refl, enters_closing 1 [] 1 refl refl);
+  rests = near_itself (meaning two_sites);
+  promises = (tt, tt);
+}
+
+pub one_refusal : Legal 0 (trail_of []) nothing_going (closing 0 ∷ [])
+one_refusal = record {
+  timeline = Entered (closing 0) ∷ [];
+  happened = refl;
+  entries = refl;
+  connections = nobody;
+  unfolds = (nobody, refl, enters_closing 0 [] 0 refl refl);
+  rests = near_itself (meaning two_sites);
+  promises = (tt, tt);
+}

@@ -1,0 +1,75 @@
+use Rattle.std.proofs.Common.{◌≡◌, Bool, true, false, refl, sym, ap, ◌∙◌, Some, None, is_some, ◌∷◌, [], inl, inr, ⊎_elim}
+use Rattle.std.specs.Ordering.{nat_cmp}
+use Rattle.std.proofs.lemmas.Cmp.{nat_cmp_total}
+use Rattle.std.specs.FinMap as fin
+use Rattle.cell_world.specs.Jobs.{Step, Replace, Finish, job_step}
+use Rattle.cell_world.specs.Meaning.{meaning}
+use Rattle.cell_world.specs.Orders.{pair_cmp}
+use Rattle.cell_world.specs.Plain.{PlainState}
+use Rattle.cell_world.specs.Spelled.{listed}
+use Rattle.cell_world.specs.Stores.{Mappings}
+use Rattle.cell_world.specs.declared.cells.Status.TheVariants.{Online, Offline}
+use Rattle.cell_world.specs.declared.operations.JobRow.{JobRow}
+use Rattle.cell_world.specs.declared.operations.Op.{Op}
+use Rattle.cell_world.specs.declared.operations.Piece.{Piece}
+use Rattle.cell_world.specs.declared.operations.Extra.TheVariants as extra
+use Rattle.cell_world.specs.declared.operations.Phase.TheVariants.{Idle, Copying, Moved}
+use Rattle.cell_world.specs.declared.spans.High.TheVariants.{At}
+use Rattle.cell_world.proofs.OrderLaws.{pairs_total}
+use Rattle.cell_world.proofs.StoreLaws.{get-insert_same, get-remove_same}
+use Rattle.plain_model.specs.JobSteps.{stepped, is_moved}
+use Rattle.plain_model.specs.Legal.{IsPlannedIn}
+use Rattle.plain_model.specs.Refusing.{if_there}
+use Rattle.plain_model.specs.Worked.{small_key}
+use Rattle.model_examples.specs.Values.{map_m, site_a, site_b, keyed_pieces, mappings_of, jobs_of, job_at, job_piece, copying_state, after_move, fresh_state, after_split, fresh_image, move_op, split_op}
+use Rattle.model_examples.proofs.Lookups.{get_of, differ}
+use Rattle.model_examples.proofs.JobStates.{job_stands, is_job, is_batch_moved, move_shows}
+use Rattle.model_examples.proofs.Operations.{in_log}
+use Rattle.model_examples.proofs.Planned.{fresh_step, plans_the_move}
+use Rattle.model_examples.proofs.legal.planned_steps.Goals as goal
+
+abbrev copying : JobRow
+copying = job_at 0 (Copying (At (small_key 5)))
+
+-- the job stands
+abbrev has_job : PlainState → Bool
+has_job s = is_some (fin.get s.jobs 1)
+
+pub returns-clause-made : goal.returns-clause-made
+returns-clause-made c = inr (inr (move_op, record { logged = in_log move_op; planned = inr (inl (refl, plans_the_move)); step = refl }))
+
+-- it changes the job, and isn't the finish
+jobs_differ : after_move.jobs ≡ copying_state.jobs → ⊥
+jobs_differ e = differ (λ jobs. if_there (λ (job : JobRow). is_moved job.phase) (fin.get jobs 1)) _ _ e move_shows (ap (if_there (λ (job : JobRow). is_moved job.phase)) (job_stands 0 (Copying (At (small_key 5)))))
+
+no_finish : stepped copying_state copying Finish ≡ Some after_move → ⊥
+no_finish e = differ (if_there has_job) _ _ (sym e) (ap is_some (get-insert_same nat_cmp_total copying_state.jobs 1 (job_at 0 (Moved (At (small_key 5)))))) (ap is_some (get-remove_same nat_cmp_total copying_state.jobs 1))
+
+pub returns-clause-never_made_by_nothing : goal.returns-clause-never_made_by_nothing
+returns-clause-never_made_by_nothing c = ⊎_elim (λ same. jobs_differ same.1) (⊎_elim no_finish (λ made. made.1.planned))
+
+pub returns-clause-never_not_logged : goal.returns-clause-never_not_logged
+returns-clause-never_not_logged c = ⊎_elim (λ same. jobs_differ same.1) (⊎_elim no_finish (λ made. ⊎_elim (λ p. let e : [] ≡ made.0 ∷ [] = p.0 in cc) (λ none. none) made.1.planned))
+
+-- ---- a split at another key than the batch end
+
+splits : after_split.mappings ≡ fresh_state.mappings → ⊥
+splits e = differ (λ (mappings : Mappings). is_some (fin.get mappings (map_m, small_key 3))) _ _ e
+    (ap is_some (get-insert_same pairs_total _ (map_m, small_key 3) (job_piece 3 10 site_a Online)))
+    (ap is_some (get_of pair_cmp (keyed_pieces (job_piece 0 10 site_a Online ∷ [])) tt (map_m, small_key 3)))
+
+keeps_the_job : stepped fresh_state (job_at 0 Idle) Finish ≡ Some after_split → ⊥
+keeps_the_job e = differ (if_there has_job) _ _ (sym e) (ap is_some (job_stands 0 Idle)) (ap is_some (get-remove_same nat_cmp_total fresh_state.jobs 1))
+
+not_planned : (op : Op) → split_op ∷ [] ≡ op ∷ [] → IsPlannedIn fresh_image 1 op → ⊥
+not_planned op is planned =
+    let same : split_op ≡ op = cc in
+    let e : Replace (job_piece 0 10 site_a Online ∷ []) (job_piece 0 10 site_a Offline ∷ []) (extra.JobPut (job_at 0 (Copying (At (small_key 10)))))
+    ≡ Replace (job_piece 0 10 site_a Online ∷ []) (job_piece 0 3 site_a Online ∷ job_piece 3 10 site_a Online ∷ []) extra.None
+    = sym fresh_step ∙ ap (job_step (meaning fresh_image)) (is_job 0 Idle planned.job planned.stands) ∙ planned.row ∙ ap (λ (op : Op). Replace (listed op.olds) (listed op.news) op.extra) (sym same) in cc
+
+pub returns-clause-never_to_another_end : goal.returns-clause-never_to_another_end
+returns-clause-never_to_another_end c = ⊎_elim (λ same. splits same.0) (⊎_elim keeps_the_job (λ made. ⊎_elim
+    (λ p. let e : [] ≡ made.0 ∷ [] = p.0 in cc)
+    (⊎_elim (λ p. not_planned made.0 p.0 p.1) (λ none. none))
+    made.1.planned))
