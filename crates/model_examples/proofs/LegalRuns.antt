@@ -31,7 +31,7 @@ no_history = record { timeline = []; happened = refl; entries = refl; connection
 means_m : meaning (with_store two_sites Global (put (global two_sites) (cell.Map map_m kind.Range Int))) ≡ record (meaning two_sites) { maps = fin.insert fin.empty map_m (kind.Range, Int) }
 means_m = meaning-put_map two_sites (empty_sound (site_a ∷ site_b ∷ [])) map_m kind.Range Int (fin.get-empty byte_cmp map_m)
 
-enters_m : MayEnter 0 two_sites (Happened map_commit ∷ []) map_entry nobody nobody
+pub enters_m : MayEnter 0 two_sites (Happened map_commit ∷ []) map_entry nobody nobody
 enters_m = record {
   moment = refl;
   follows = record {
@@ -43,7 +43,7 @@ enters_m = record {
 }
 
 -- the commit, the entry, and then the line
-pub one_map : Legal 0 map_trail nothing_going (map_entry ∷ [])
+abbrev pub one_map : Legal 0 map_trail nothing_going (map_entry ∷ [])
 one_map = record {
   timeline = Happened (Wrote (codes "ok\n")) ∷ Entered map_entry ∷ Happened map_commit ∷ [];
   happened = refl;

@@ -7,3 +7,4 @@ pub mod Maps
 pub mod NearStates
 pub mod Operations
 pub mod Planned
+pub mod Texts

@@ -2,5 +2,7 @@
 #![tactic(auto)]
 
 pub mod follows;
+pub mod headline;
 pub mod legal;
 pub mod on_trail;
+pub mod written;
