@@ -1,10 +1,11 @@
 -- Legal histories on two empty sites, built as they come about.
-use Rattle.std.proofs.Common.{◌≡◌, ℕ, ◌+◌, ◌≤◌, arith, refl, sym, ap, ◌∙◌, Some, None, List, [], ◌∷◌, length}
+use Rattle.std.proofs.Common.{◌≡◌, ℕ, false, ◌+◌, ◌≤◌, arith, refl, sym, ap, ◌∙◌, Some, None, List, [], ◌∷◌, length}
 use Rattle.std.specs.FinMap as fin
 use Rattle.cell_world.specs.ByteOrder.{byte_cmp}
 use Rattle.cell_world.specs.Images.{Global, Wrote, with_store, global}
 use Rattle.cell_world.specs.Meaning.{meaning}
 use Rattle.cell_world.specs.Plain.{PlainState, nobody, holds_nothing, with_connections}
+use Rattle.cell_world.specs.Sound.{Sound}
 use Rattle.cell_world.specs.Stores.{put}
 use Rattle.cell_world.specs.declared.cells.Cell.TheVariants as cell
 use Rattle.cell_world.specs.declared.cells.KeyType.{KeyType}
@@ -12,13 +13,17 @@ use Rattle.cell_world.specs.declared.cells.KeyType.TheVariants.{Int}
 use Rattle.cell_world.specs.declared.cells.MapKind.{MapKind}
 use Rattle.cell_world.specs.declared.cells.MapKind.TheVariants as kind
 use Rattle.cell_world.proofs.EmptyLaws.{empty_sound}
-use Rattle.cell_world.proofs.MapKeepsSound.{meaning-put_map}
+use Rattle.cell_world.proofs.MapKeepsSound.{meaning-put_map, map_keeps_sound}
 use Rattle.plain_model.specs.declared.replies.Reply.{Reply}
 use Rattle.plain_model.specs.declared.replies.Reply.TheVariants as reply
 use Rattle.plain_model.specs.declared.replies.Refusal.TheVariants as refused
 use Rattle.plain_model.specs.Legal.{Legal, MayEnter}
 use Rattle.plain_model.specs.Timelines.{Timeline, Happened, Entered, image_of, facts_of, happened_of}
+use Rattle.plain_model.specs.Lines.{lines_of}
+use Rattle.plain_model.specs.Running.{AllSound}
+use Rattle.plain_model.specs.Written.{EachReply, WrittenByMoments}
 use Rattle.plain_model.proofs.NearLaws.{near_itself}
+use Rattle.plain_model.proofs.WrittenAtMoments.{written_by_moments}
 use Rattle.model_examples.specs.Values.{site_a, site_b, map_m, two_sites, trail_of, nothing_going, map_trail, map_commit, map_entry, closing}
 use Rattle.std.specs.Prelude.{codes}
 use Rattle.model_examples.proofs.Closing.{not_open, makes_first}
@@ -100,3 +105,36 @@ one_refusal = record {
   rests = near_itself (meaning two_sites);
   promises = (tt, tt);
 }
+
+-- ---- what is written of the one map
+
+-- the map alone, without its line
+abbrev pub map_unwritten : Legal 0 (trail_of (map_commit ∷ [])) nothing_going (map_entry ∷ [])
+map_unwritten = record {
+  timeline = Entered map_entry ∷ Happened map_commit ∷ [];
+  happened = refl;
+  entries = refl;
+  connections = nobody;
+  unfolds = (nobody, (refl, near_itself (meaning two_sites), refl), enters_m);
+  rests = near_itself _;
+  promises = (tt, tt);
+}
+
+pub map_written : WrittenByMoments (EachReply false) map_trail 0 (map_entry ∷ [])
+unfolding lines_of
+map_written = written_by_moments (EachReply false) map_trail 0 one_map.timeline one_map.connections (omega arith) one_map.unfolds refl
+    (((tt, record { enough = ([], refl); no_more = ([], refl) }), tt), record { enough = ([], refl); no_more = (codes "ok\n", refl) })
+    (record { enough = (codes "ok\n", refl); no_more = ([], refl) })
+
+pub map_unwritten_so_far : WrittenByMoments (EachReply false) (trail_of (map_commit ∷ [])) 0 (map_entry ∷ [])
+unfolding lines_of
+map_unwritten_so_far = written_by_moments (EachReply false) (trail_of (map_commit ∷ [])) 0 map_unwritten.timeline map_unwritten.connections (omega arith) map_unwritten.unfolds refl
+    ((tt, record { enough = ([], refl); no_more = ([], refl) }), tt)
+    (record { enough = ([], refl); no_more = (codes "ok\n", refl) })
+
+-- ---- the stores stay sound
+
+pub map_sound : AllSound two_sites one_map.timeline
+map_sound = let sound : Sound two_sites = empty_sound (site_a ∷ site_b ∷ []) in
+    let after = map_keeps_sound two_sites sound map_m kind.Range Int (fin.get-empty byte_cmp map_m) in
+    (after, (after, sound))

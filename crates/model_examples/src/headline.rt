@@ -14,7 +14,7 @@ ghost use Rattle.model_examples.specs.Values.{map_m, map_n, site_a, make_map, an
 
 /// The stores are sound at each moment.
 pub fn sound_at_each_moment()
-    ensures nothing { SoundAtEachMoment (trail_of []) 0 }
+    ensures one_map { SoundAtEachMoment map_trail 0 }
     ensures never_a_shard_of_no_map { SoundAtEachMoment (trail_of (Committed Global (Put (cell.Shard map_m site_a) ∷ []) true ∷ [])) 0 → ⊥ }
 {}
 

@@ -4,14 +4,11 @@ use Rattle.plain_model.specs.Lines.{lines_of}
 use Rattle.plain_model.specs.Written.{EachReply}
 use Rattle.plain_model.proofs.WrittenAtMoments.{written_by_moments}
 use Rattle.model_examples.specs.Values.{map_trail}
-use Rattle.model_examples.proofs.LegalRuns.{one_map}
+use Rattle.model_examples.proofs.LegalRuns.{map_written}
 use Rattle.model_examples.proofs.written.written_by_moments.Goals as goal
 
 pub returns-clause-one_map : goal.returns-clause-one_map
-unfolding lines_of
-returns-clause-one_map c = written_by_moments (EachReply false) map_trail 0 one_map.timeline one_map.connections (omega arith) one_map.unfolds refl
-    (((tt, record { enough = ([], refl); no_more = ([], refl) }), tt), record { enough = ([], refl); no_more = (codes "ok\n", refl) })
-    (record { enough = (codes "ok\n", refl); no_more = ([], refl) })
+returns-clause-one_map c = map_written
 
 pub returns-clause-never_before_the_entry : goal.returns-clause-never_before_the_entry
 unfolding lines_of
