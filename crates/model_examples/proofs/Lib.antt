@@ -1,6 +1,7 @@
 pub mod Closing
 pub mod Faults
 pub mod JobStates
+pub mod Learning
 pub mod LegalRuns
 pub mod Lookups
 pub mod Maps

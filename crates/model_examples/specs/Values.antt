@@ -36,8 +36,9 @@ use Rattle.plain_model.specs.declared.replies.Reply.{Reply}
 use Rattle.plain_model.specs.declared.replies.Reply.TheVariants as reply
 use Rattle.plain_model.specs.declared.replies.Refusal.TheVariants as refused
 use Rattle.plain_model.specs.declared.history.Entry.{Entry}
-use Rattle.plain_model.specs.Timelines.{Made}
+use Rattle.plain_model.specs.Timelines.{Made, Past}
 use Rattle.plain_model.specs.JobSteps.{with_extra}
+use Rattle.plain_model.specs.Caches.{Learnt}
 use Rattle.plain_model.specs.Headline.{Causes}
 use Rattle.plain_model.specs.Legal.{AllGoing}
 use Rattle.plain_model.specs.Steps.{exchanging, with_held, with_connection}
@@ -345,3 +346,24 @@ no_causes = record { bad_words = λ place. ⊥; bad_script = λ line reason. ⊥
 -- the words go wrong at the first place
 abbrev pub bad_words : Causes
 bad_words = record no_causes { bad_words = λ place. place ≡ 1 }
+
+-- ---- what a run has learnt
+
+-- the mapping [0, 10) of m is online at `s/a`
+abbrev pub owned_state : PlainState
+owned_state = state_with (mapping_over (small_range 0 10) Online ∷ []) []
+
+-- a span of m at `s/a`, learnt at a place
+abbrev pub learnt : ℕ → ℕ → ℕ → Learnt
+learnt low high place = record { map = map_m; type = Int; span = small_range low high; location = site_a; place = place }
+
+-- the command `open 1 m 5`, and its answer
+abbrev pub open_5 : Command
+open_5 = command.Open 1 map_m (codes "5")
+
+abbrev pub opened : Entry
+opened = answered 1 open_5 (reply.At site_a)
+
+-- it was the first entry
+abbrev pub opened_past : Past
+opened_past = made opened owned_state ∷ []
