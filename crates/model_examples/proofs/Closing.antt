@@ -1,5 +1,5 @@
 -- A `close` without a connection, and a `map` on any state without maps.
-use Rattle.std.proofs.Common.{◌≡◌, refl, sym, ap, ◌∙◌, None}
+use Rattle.std.proofs.Common.{◌≡◌, refl, None}
 use Rattle.std.specs.FinMap as fin
 use Rattle.cell_world.specs.Plain.{PlainState, Held}
 use Rattle.plain_model.specs.declared.commands.Command.TheVariants as command

@@ -1,18 +1,17 @@
 -- What the plain step leaves, whether the command is refused or done.
-use Rattle.std.proofs.Common.{◌≡◌, ℕ, Bool, true, false, cond, refl, sym, ap, ◌∙◌, Some, None, Option, [], ◌∷◌, ◌&&◌}
+use Rattle.std.proofs.Common.{◌≡◌, ℕ, Bool, true, false, cond, refl, Some, None, Option, [], ◌∷◌, ◌&&◌}
 use Rattle.std.specs.Prelude.{◌==◌, codes}
 use Rattle.cell_world.specs.KeyForms.{normal_of}
 use Rattle.cell_world.specs.Orders.{pair_cmp}
 use Rattle.cell_world.specs.Plain.{PlainState, Held, Connection}
 use Rattle.cell_world.specs.declared.cells.Status.TheVariants.{Online}
 use Rattle.plain_model.specs.declared.commands.Command.{Command}
-use Rattle.plain_model.specs.declared.commands.Command.TheVariants as command
 use Rattle.plain_model.specs.declared.replies.Refusal.{Refusal}
 use Rattle.plain_model.specs.JobSteps.{with_ended}
 use Rattle.plain_model.specs.Refusing.{refusal, mapping_of, if_there}
 use Rattle.plain_model.specs.Steps.{plain_step, refused_or_done, accepted, ended_under}
 use Rattle.plain_model.specs.Worked.{small_key, small_range, mapping_over}
-use Rattle.model_examples.specs.Values.{map_m, site_a, keyed_pieces, connected_state, one_connection}
+use Rattle.model_examples.specs.Values.{map_m, site_a, keyed_pieces, connected_state}
 use Rattle.model_examples.proofs.Lookups.{entries_of}
 use Rattle.model_examples.proofs.JobStates.{m_stands}
 

@@ -1,9 +1,9 @@
 -- What the states of job 1 say: its row, the mappings, and what a step that was taken made of them.
-use Rattle.std.proofs.Common.{◌≡◌, ℕ, Bool, true, false, refl, sym, ap, ◌∙◌, subst, Some, None, List, [], ◌∷◌, is_some}
+use Rattle.std.proofs.Common.{◌≡◌, ℕ, Bool, true, refl, sym, ap, ◌∙◌, subst, Some, None, List, [], ◌∷◌, is_some}
 use Rattle.std.specs.Ordering.{nat_cmp}
 use Rattle.std.proofs.lemmas.Cmp.{nat_cmp_total}
 use Rattle.std.specs.FinMap as fin
-use Rattle.cell_world.specs.ByteOrder.{byte_cmp, byte_cmp_total}
+use Rattle.cell_world.specs.ByteOrder.{byte_cmp}
 use Rattle.cell_world.specs.Orders.{pair_cmp}
 use Rattle.cell_world.specs.Plain.{PlainState, Held}
 use Rattle.cell_world.specs.Jobs.{Step, Replace}
@@ -14,14 +14,14 @@ use Rattle.cell_world.specs.declared.operations.Piece.{Piece}
 use Rattle.cell_world.specs.declared.operations.JobRow.{JobRow}
 use Rattle.cell_world.specs.declared.operations.Extra.TheVariants as extra
 use Rattle.cell_world.specs.declared.operations.Phase.{Phase}
-use Rattle.cell_world.specs.declared.operations.Phase.TheVariants.{Idle, Copying, Moved}
+use Rattle.cell_world.specs.declared.operations.Phase.TheVariants.{Copying, Moved}
 use Rattle.cell_world.specs.declared.spans.High.TheVariants.{At}
 use Rattle.plain_model.specs.declared.commands.Command.TheVariants as command
 use Rattle.plain_model.specs.declared.replies.Reply.{Reply}
 use Rattle.plain_model.specs.declared.replies.Reply.TheVariants as reply
-use Rattle.plain_model.specs.JobSteps.{TakesJobStep, stepped, with_extra, is_moved}
-use Rattle.plain_model.specs.Refusing.{refusal, type_of_map, if_there}
-use Rattle.plain_model.specs.Steps.{plain_step, refused_or_done, exchanging}
+use Rattle.plain_model.specs.JobSteps.{TakesJobStep, stepped, is_moved}
+use Rattle.plain_model.specs.Refusing.{refusal, if_there}
+use Rattle.plain_model.specs.Steps.{plain_step, refused_or_done}
 use Rattle.plain_model.specs.Worked.{small_key}
 use Rattle.model_examples.specs.Values.{map_m, map_n, site_a, site_b, entries_m, maps_m, keyed_pieces, numbered_jobs, jobs_of, with_map, state_with, job_at, job_piece, copying_state, after_move}
 use Rattle.model_examples.proofs.Lookups.{get_of, entries_of, differ}

@@ -1,5 +1,5 @@
 -- What the run has learnt of its first entry, and the words of a `peek`.
-use Rattle.std.proofs.Common.{◌≡◌, ◌⊎◌, ℕ, refl, sym, ap, ◌∙◌, subst, Some, [], ◌∷◌, inl, ⊎_elim}
+use Rattle.std.proofs.Common.{◌≡◌, ℕ, refl, sym, subst, Some, [], ◌∷◌, inl, ⊎_elim}
 use Rattle.std.specs.Prelude.{codes}
 use Rattle.cell_world.specs.Texts.{Text}
 use Rattle.cell_world.specs.KeyForms.{normal_of}

@@ -1,5 +1,5 @@
 -- Legal histories on two empty sites, built as they come about.
-use Rattle.std.proofs.Common.{◌≡◌, ℕ, false, ◌+◌, ◌≤◌, arith, refl, sym, ap, ◌∙◌, Some, None, List, [], ◌∷◌, length}
+use Rattle.std.proofs.Common.{◌≡◌, ℕ, false, ◌+◌, arith, refl, sym, ap, ◌∙◌, [], ◌∷◌, length}
 use Rattle.std.specs.FinMap as fin
 use Rattle.cell_world.specs.ByteOrder.{byte_cmp}
 use Rattle.cell_world.specs.Images.{Global, Wrote, with_store, global}
@@ -14,7 +14,6 @@ use Rattle.cell_world.specs.declared.cells.MapKind.{MapKind}
 use Rattle.cell_world.specs.declared.cells.MapKind.TheVariants as kind
 use Rattle.cell_world.proofs.EmptyLaws.{empty_sound}
 use Rattle.cell_world.proofs.MapKeepsSound.{meaning-put_map, map_keeps_sound}
-use Rattle.plain_model.specs.declared.replies.Reply.{Reply}
 use Rattle.plain_model.specs.declared.replies.Reply.TheVariants as reply
 use Rattle.plain_model.specs.declared.replies.Refusal.TheVariants as refused
 use Rattle.plain_model.specs.Legal.{Legal, MayEnter}

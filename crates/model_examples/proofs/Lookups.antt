@@ -1,5 +1,5 @@
 -- What a table of a few entries has: its lookups and searches compute over the list; and how values that differ are told apart.
-use Rattle.std.proofs.Common.{◌≡◌, Bool, true, false, true≢false, sym, ap, ◌∙◌, Option, List, T}
+use Rattle.std.proofs.Common.{◌≡◌, Bool, true, false, true≢false, sym, ap, ◌∙◌, List, T}
 use Rattle.std.specs.declared.cmp.Ordering.{Ordering}
 use Rattle.std.specs.FinMap as fin
 use Rattle.std.specs.FinMap.{is_sorted}

@@ -1,5 +1,5 @@
 -- The command `map` on a state without maps, and states with other maps.
-use Rattle.std.proofs.Common.{◌≡◌, Bool, true, false, refl, sym, ap, ◌∙◌, Some, None, is_some}
+use Rattle.std.proofs.Common.{◌≡◌, Bool, true, false, refl, ap, ◌∙◌, Some, None, is_some}
 use Rattle.std.specs.FinMap as fin
 use Rattle.cell_world.specs.Texts.{Text}
 use Rattle.cell_world.specs.ByteOrder.{byte_cmp, byte_cmp_total}

@@ -1,6 +1,6 @@
 -- States that are near, and what near states have in common.
-use Rattle.std.proofs.Common.{◌≡◌, Bool, true, false, cond, not, ◌&&◌, refl, sym, ap, ◌∙◌, subst, Some, None, Option, List, [], ◌∷◌}
-use Rattle.std.specs.Prelude.{filter, map, option_map}
+use Rattle.std.proofs.Common.{◌≡◌, Bool, true, false, cond, not, ◌&&◌, refl, sym, ap, ◌∙◌, Some, None, [], ◌∷◌}
+use Rattle.std.specs.Prelude.{option_map}
 use Rattle.std.specs.Ordering.{is_lt, is_gt, ordering_reverse}
 use Rattle.std.specs.declared.cmp.Ordering.{Ordering}
 use Rattle.std.specs.declared.cmp.Ordering.TheVariants.{Less, Equal, Greater}
@@ -20,7 +20,7 @@ use Rattle.cell_world.proofs.SpanLaws.{same_is, at_most_below, at_most_trans}
 use Rattle.plain_model.specs.Differing.{local_status, local_rows_of}
 use Rattle.plain_model.specs.Near.{Near}
 use Rattle.plain_model.specs.Worked.{small_key, small_range, local_row_over}
-use Rattle.model_examples.specs.Values.{map_m, site_a, away_of, away_state, holding, keyed_locals, locals_of, local_rows}
+use Rattle.model_examples.specs.Values.{map_m, site_a, away_of, away_state, holding, keyed_locals, local_rows}
 use Rattle.model_examples.proofs.Lookups.{get_of, entries_of}
 use Rattle.model_examples.proofs.Maps.{has_map}
 

@@ -1,5 +1,5 @@
 -- The log of one or two operations, and what `add m 0 10` reaches.
-use Rattle.std.proofs.Common.{◌≡◌, ℕ, ◌≤◌, arith, Bool, true, false, refl, sym, ap, ◌∙◌, Some, None, Option, ◌∷◌, [], ⊎_elim}
+use Rattle.std.proofs.Common.{◌≡◌, refl, sym, ◌∙◌, Some, None, [], ⊎_elim}
 use Rattle.std.specs.Ordering.{nat_cmp}
 use Rattle.std.proofs.lemmas.Cmp.{nat_cmp_total}
 use Rattle.std.specs.FinMap as fin
@@ -8,7 +8,7 @@ use Rattle.cell_world.specs.KeyForms.{normal_of}
 use Rattle.cell_world.specs.Sound.{HasLog}
 use Rattle.cell_world.specs.declared.operations.Op.{Op}
 use Rattle.cell_world.specs.declared.operations.Reach.TheVariants as reach
-use Rattle.cell_world.proofs.StoreLaws.{get-insert_same, get-insert_other, get-insert_cases}
+use Rattle.cell_world.proofs.StoreLaws.{get-insert_same, get-insert_cases}
 use Rattle.plain_model.specs.OnTrail.{reach_of_command}
 use Rattle.plain_model.specs.Worked.{small_range}
 use Rattle.model_examples.specs.Values.{map_m, state_with, add_0_10}

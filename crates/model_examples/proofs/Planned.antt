@@ -1,12 +1,12 @@
 -- The next step of a job as an image tells it, and the operations that do it.
-use Rattle.std.proofs.Common.{◌≡◌, ℕ, Bool, true, false, cond, refl, sym, ap, ◌∙◌, Some, None, Option, List, [], ◌∷◌, length, arith}
+use Rattle.std.proofs.Common.{◌≡◌, Bool, true, false, cond, refl, sym, ap, ◌∙◌, Some, None, Option, List, [], ◌∷◌, length, arith}
 use Rattle.std.specs.Prelude.{option_and_then}
 use Rattle.std.specs.FinMap as fin
 use Rattle.std.specs.declared.cmp.Ordering.{Ordering}
 use Rattle.cell_world.specs.Orders.{pair_cmp, row_cmp}
-use Rattle.cell_world.specs.Images.{Image, global}
-use Rattle.cell_world.specs.Jobs.{Step, Replace, table_row, batch_end, with_end, job_step}
-use Rattle.cell_world.specs.Meaning.{meaning, owner_of, is_attached_at, row_at}
+use Rattle.cell_world.specs.Images.{global}
+use Rattle.cell_world.specs.Jobs.{Replace, table_row, batch_end, with_end, job_step}
+use Rattle.cell_world.specs.Meaning.{meaning, owner_of, is_attached_at}
 use Rattle.cell_world.specs.Plain.{owner}
 use Rattle.cell_world.specs.Stores.{Rows}
 use Rattle.cell_world.specs.Texts.{Text}
@@ -15,7 +15,7 @@ use Rattle.cell_world.specs.declared.cells.Status.TheVariants.{Online, Offline}
 use Rattle.cell_world.specs.declared.operations.Piece.{Piece}
 use Rattle.cell_world.specs.declared.operations.JobRow.{JobRow}
 use Rattle.cell_world.specs.declared.operations.Extra.TheVariants as extra
-use Rattle.cell_world.specs.declared.operations.Phase.TheVariants.{Idle, Copying, Moved}
+use Rattle.cell_world.specs.declared.operations.Phase.TheVariants.{Idle, Copying}
 use Rattle.cell_world.specs.declared.spans.High.TheVariants.{At}
 use Rattle.cell_world.proofs.MeaningLaws.{get-rows}
 use Rattle.cell_world.proofs.OrderLaws.{rows_total, exact_rows}
@@ -23,7 +23,7 @@ use Rattle.plain_model.specs.Legal.{IsPlannedIn}
 use Rattle.plain_model.specs.Worked.{small_key}
 use Rattle.model_examples.specs.Values.{site_a, keyed_pieces, job_at, job_piece, job_image, copying_image, fresh_image, move_op}
 use Rattle.model_examples.proofs.Lookups.{entries_of}
-use Rattle.model_examples.proofs.JobStates.{m_stands, job_stands, the_move}
+use Rattle.model_examples.proofs.JobStates.{m_stands, job_stands}
 
 no_length : {A : Type 0} (es : List A) → length es ≡ 0 → es ≡ []
 no_length [] e = refl

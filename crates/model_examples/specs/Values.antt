@@ -1,11 +1,11 @@
 -- Small values for the examples: two sites, the map m of small numbers, and a job that moves a range of it.
-use Rattle.std.specs.Prelude.{◌≡◌, ℕ, ◌+◌, ◌==◌, if◌then◌else◌, Bool, true, List, [], ◌∷◌, Option, Some, None, codes, map}
+use Rattle.std.specs.Prelude.{◌≡◌, ℕ, ◌+◌, ◌==◌, if◌then◌else◌, Bool, true, List, [], ◌∷◌, Some, None, codes, map}
 use Rattle.std.specs.FinMap as fin
 use Rattle.std.specs.FinSet as set
 use Rattle.cell_world.specs.Texts.{Text}
-use Rattle.cell_world.specs.Stores.{Store, empty_store, Maps, Mappings, Jobs, AwaySites, Locals, Rows, piece_key, local_key}
+use Rattle.cell_world.specs.Stores.{Store, empty_store, Maps, Mappings, Jobs, AwaySites, Locals, piece_key, local_key}
 use Rattle.cell_world.specs.Images.{Image, Trail, Global, Shard, Happening, Committed, Wrote, empty_image, with_store}
-use Rattle.cell_world.specs.Outside.{Outside, Told, TellsNothing, TellsTrail}
+use Rattle.cell_world.specs.Outside.{Outside, Told, TellsNothing}
 use Rattle.cell_world.specs.Plain.{PlainState, Held, Connections, holds_nothing, nobody}
 use Rattle.cell_world.specs.declared.cells.Away.{Away}
 use Rattle.cell_world.specs.declared.cells.Away.TheVariants.{Detached}

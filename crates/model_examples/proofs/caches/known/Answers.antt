@@ -1,12 +1,12 @@
-use Rattle.std.proofs.Common.{◌≡◌, ℕ, ◌<◌, arith, true, false, refl, sym, ap, ◌∙◌, Some, inl, inr, ⊎_elim}
+use Rattle.std.proofs.Common.{◌≡◌, ℕ, arith, true, false, refl, sym, ap, ◌∙◌, Some, inl, inr, ⊎_elim}
 use Rattle.std.specs.Prelude.{codes}
 use Rattle.cell_world.specs.Texts.{Text}
-use Rattle.cell_world.specs.Keys.{same, contains, low_of, overlaps}
+use Rattle.cell_world.specs.Keys.{same, contains}
 use Rattle.cell_world.specs.KeyForms.{normal_of}
 use Rattle.cell_world.specs.declared.cells.KeyType.TheVariants.{Int}
 use Rattle.plain_model.specs.Caches.{Learnt}
 use Rattle.plain_model.specs.Worked.{small_key, small_range}
-use Rattle.model_examples.specs.Values.{site_a, learnt}
+use Rattle.model_examples.specs.Values.{site_a}
 use Rattle.model_examples.proofs.Lookups.{differ}
 use Rattle.model_examples.proofs.Learning.{is_known, only_known, word_of, key_7, key_10}
 use Rattle.model_examples.proofs.caches.known.Goals as goal

@@ -1,12 +1,10 @@
-use Rattle.std.proofs.Common.{◌≡◌, ℕ, arith, true, false, refl, sym, ap, ◌∙◌, subst, Some, None, Option, ◌∷◌, []}
+use Rattle.std.proofs.Common.{◌≡◌, ℕ, arith, true, false, refl, ap, ◌∙◌, Some, None, ◌∷◌, []}
 use Rattle.cell_world.specs.Keys.{end_below, same_end}
-use Rattle.cell_world.specs.Jobs.{TableRow, merge_due}
+use Rattle.cell_world.specs.Jobs.{merge_due}
 use Rattle.cell_world.specs.Orders.{pair_cmp}
-use Rattle.cell_world.specs.declared.cells.KeyType.{KeyType}
 use Rattle.cell_world.specs.declared.cells.KeyType.TheVariants as type
 use Rattle.cell_world.specs.declared.cells.Status.TheVariants.{Online}
 use Rattle.cell_world.specs.declared.operations.JobRow.{JobRow}
-use Rattle.cell_world.specs.declared.operations.Phase.{Phase}
 use Rattle.cell_world.specs.declared.operations.Phase.TheVariants.{Idle, Copying, Moved}
 use Rattle.cell_world.specs.declared.spans.High.TheVariants.{At}
 use Rattle.plain_model.specs.Refusing.{type_of_map}

@@ -1,15 +1,10 @@
-use Rattle.std.proofs.Common.{◌≡◌, true, false, refl, sym, ap, ◌∙◌, is_some, inl, inr, ⊎_elim}
-use Rattle.std.specs.FinMap as fin
-use Rattle.cell_world.specs.ByteOrder.{byte_cmp}
-use Rattle.cell_world.specs.Plain.{PlainState, Held}
+use Rattle.std.proofs.Common.{◌≡◌, true, false, refl, sym, ◌∙◌, inl, inr, ⊎_elim}
+use Rattle.cell_world.specs.Plain.{PlainState}
 use Rattle.cell_world.specs.declared.cells.Away.TheVariants.{Detached, Suspect}
-use Rattle.plain_model.specs.declared.commands.Command.{Command}
 use Rattle.plain_model.specs.declared.commands.Command.TheVariants as command
 use Rattle.plain_model.specs.Near.{Near}
-use Rattle.plain_model.specs.Steps.{plain_step, accepted}
 use Rattle.plain_model.proofs.NearLaws.{near_itself}
 use Rattle.model_examples.specs.Values.{map_n, site_a, empty_state, away_state, with_map, one_row}
-use Rattle.model_examples.proofs.Lookups.{differ}
 use Rattle.model_examples.proofs.Maps.{has_map, has_it, has_none}
 use Rattle.model_examples.proofs.NearStates.{near_maps, detached_holds}
 use Rattle.model_examples.proofs.Faults.{keeps}

@@ -1,4 +1,4 @@
-use Rattle.std.proofs.Common.{◌≡◌, ℕ, arith, Bool, true, false, refl, sym, List, [], ◌∷◌, is_some}
+use Rattle.std.proofs.Common.{◌≡◌, ℕ, arith, Bool, true, false, refl, sym, List, [], is_some}
 use Rattle.std.specs.Prelude.{◌==◌, slice_get}
 use Rattle.cell_world.specs.Texts.{Text}
 use Rattle.cell_world.specs.Keys.{same}

@@ -1,7 +1,5 @@
-use Rattle.std.proofs.Common.{◌≡◌, ℕ, true, false, arith, refl, sym, ap, ◌∙◌, is_some}
-use Rattle.std.specs.FinMap as fin
+use Rattle.std.proofs.Common.{◌≡◌, true, false, arith, refl, sym, ◌∙◌}
 use Rattle.std.specs.FinSet as set
-use Rattle.cell_world.specs.ByteOrder.{byte_cmp}
 use Rattle.cell_world.proofs.OrderLaws.{pairs_total}
 use Rattle.cell_world.proofs.StoreLaws.{contains-insert_same}
 use Rattle.plain_model.proofs.RunsAtMoments.{sound_by_moments}

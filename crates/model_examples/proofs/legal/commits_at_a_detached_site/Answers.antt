@@ -1,7 +1,7 @@
-use Rattle.std.proofs.Common.{◌≡◌, true, false, refl, sym, ap, ◌∙◌, is_some, []}
+use Rattle.std.proofs.Common.{◌≡◌, true, false, refl, ap, is_some, []}
 use Rattle.std.specs.FinMap as fin
 use Rattle.std.specs.FinSet as set
-use Rattle.cell_world.specs.Orders.{local_cmp, pair_cmp}
+use Rattle.cell_world.specs.Orders.{local_cmp}
 use Rattle.cell_world.specs.Stores.{Store, local_key}
 use Rattle.cell_world.specs.declared.cells.Away.TheVariants.{Detached}
 use Rattle.cell_world.specs.declared.cells.LocalRow.{LocalRow}
@@ -9,7 +9,7 @@ use Rattle.cell_world.specs.declared.cells.Mark.TheVariants.{Old}
 use Rattle.cell_world.specs.declared.cells.Status.TheVariants.{Online}
 use Rattle.cell_world.proofs.OrderLaws.{locals_total, pairs_total}
 use Rattle.cell_world.proofs.StoreLaws.{get-insert_same, contains-insert_same}
-use Rattle.plain_model.specs.Worked.{small_key, small_range, local_row_over}
+use Rattle.plain_model.specs.Worked.{small_range, local_row_over}
 use Rattle.model_examples.specs.Values.{map_m, site_a, keyed_locals, locals_of}
 use Rattle.model_examples.proofs.Lookups.{entries_of, differ}
 use Rattle.model_examples.proofs.JobStates.{m_stands}

@@ -1,4 +1,4 @@
-use Rattle.std.proofs.Common.{◌≡◌, ℕ, arith, refl}
+use Rattle.std.proofs.Common.{◌≡◌, arith, refl}
 use Rattle.model_examples.proofs.legal.job_running_promises.Goals as goal
 
 pub returns-clause-answered_next : goal.returns-clause-answered_next

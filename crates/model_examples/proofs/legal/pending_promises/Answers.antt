@@ -1,4 +1,4 @@
-use Rattle.std.proofs.Common.{◌≡◌, ℕ, arith, refl}
+use Rattle.std.proofs.Common.{◌≡◌, arith, refl}
 use Rattle.model_examples.proofs.legal.pending_promises.Goals as goal
 
 pub returns-clause-named_next : goal.returns-clause-named_next

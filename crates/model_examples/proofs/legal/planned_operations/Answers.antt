@@ -1,15 +1,14 @@
-use Rattle.std.proofs.Common.{◌≡◌, Bool, true, false, refl, sym, ap, ◌∙◌, Some, None, ◌∷◌, []}
+use Rattle.std.proofs.Common.{◌≡◌, Bool, false, refl, sym, ap, ◌∙◌, Some, None, ◌∷◌, []}
 use Rattle.std.specs.Ordering.{nat_cmp}
 use Rattle.cell_world.specs.Jobs.{Step, Replace, job_step}
 use Rattle.cell_world.specs.Meaning.{meaning}
 use Rattle.cell_world.specs.declared.cells.Status.TheVariants.{Online, Offline}
-use Rattle.cell_world.specs.declared.operations.JobRow.{JobRow}
 use Rattle.cell_world.specs.declared.operations.Extra.TheVariants as extra
-use Rattle.cell_world.specs.declared.operations.Phase.TheVariants.{Idle, Copying, Moved}
+use Rattle.cell_world.specs.declared.operations.Phase.TheVariants.{Idle, Copying}
 use Rattle.cell_world.specs.declared.spans.High.TheVariants.{At}
 use Rattle.plain_model.specs.JobSteps.{is_moved}
 use Rattle.plain_model.specs.Worked.{small_key}
-use Rattle.model_examples.specs.Values.{site_a, site_b, numbered_jobs, job_at, job_piece, fresh_image}
+use Rattle.model_examples.specs.Values.{site_a, numbered_jobs, job_at, job_piece, fresh_image}
 use Rattle.model_examples.proofs.Lookups.{get_of, differ}
 use Rattle.model_examples.proofs.JobStates.{is_job}
 use Rattle.model_examples.proofs.Planned.{fresh_step, plans_the_move}

@@ -1,8 +1,7 @@
-use Rattle.std.proofs.Common.{◌≡◌, Bool, true, false, refl, sym, ap, ◌∙◌, Some, None, is_some, ◌∷◌, [], inl, inr, ⊎_elim}
-use Rattle.std.specs.Ordering.{nat_cmp}
+use Rattle.std.proofs.Common.{◌≡◌, Bool, refl, sym, ap, ◌∙◌, Some, is_some, ◌∷◌, [], inl, inr, ⊎_elim}
 use Rattle.std.proofs.lemmas.Cmp.{nat_cmp_total}
 use Rattle.std.specs.FinMap as fin
-use Rattle.cell_world.specs.Jobs.{Step, Replace, Finish, job_step}
+use Rattle.cell_world.specs.Jobs.{Replace, Finish, job_step}
 use Rattle.cell_world.specs.Meaning.{meaning}
 use Rattle.cell_world.specs.Orders.{pair_cmp}
 use Rattle.cell_world.specs.Plain.{PlainState}
@@ -11,7 +10,6 @@ use Rattle.cell_world.specs.Stores.{Mappings}
 use Rattle.cell_world.specs.declared.cells.Status.TheVariants.{Online, Offline}
 use Rattle.cell_world.specs.declared.operations.JobRow.{JobRow}
 use Rattle.cell_world.specs.declared.operations.Op.{Op}
-use Rattle.cell_world.specs.declared.operations.Piece.{Piece}
 use Rattle.cell_world.specs.declared.operations.Extra.TheVariants as extra
 use Rattle.cell_world.specs.declared.operations.Phase.TheVariants.{Idle, Copying, Moved}
 use Rattle.cell_world.specs.declared.spans.High.TheVariants.{At}
@@ -21,9 +19,9 @@ use Rattle.plain_model.specs.JobSteps.{stepped, is_moved}
 use Rattle.plain_model.specs.Legal.{IsPlannedIn}
 use Rattle.plain_model.specs.Refusing.{if_there}
 use Rattle.plain_model.specs.Worked.{small_key}
-use Rattle.model_examples.specs.Values.{map_m, site_a, site_b, keyed_pieces, mappings_of, jobs_of, job_at, job_piece, copying_state, after_move, fresh_state, after_split, fresh_image, move_op, split_op}
+use Rattle.model_examples.specs.Values.{map_m, site_a, keyed_pieces, job_at, job_piece, copying_state, after_move, fresh_state, after_split, fresh_image, move_op, split_op}
 use Rattle.model_examples.proofs.Lookups.{get_of, differ}
-use Rattle.model_examples.proofs.JobStates.{job_stands, is_job, is_batch_moved, move_shows}
+use Rattle.model_examples.proofs.JobStates.{job_stands, is_job, move_shows}
 use Rattle.model_examples.proofs.Operations.{in_log}
 use Rattle.model_examples.proofs.Planned.{fresh_step, plans_the_move}
 use Rattle.model_examples.proofs.legal.planned_steps.Goals as goal

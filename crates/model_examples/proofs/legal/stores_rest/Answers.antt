@@ -1,4 +1,4 @@
-use Rattle.std.proofs.Common.{◌≡◌, true, false, arith, refl, sym, ap, ◌∙◌}
+use Rattle.std.proofs.Common.{◌≡◌, true, false, arith, sym, ◌∙◌}
 use Rattle.model_examples.specs.Values.{map_m, empty_state}
 use Rattle.model_examples.proofs.Maps.{has_it, has_none}
 use Rattle.model_examples.proofs.NearStates.{near_maps}

@@ -1,9 +1,8 @@
-use Rattle.std.proofs.Common.{◌≡◌, true, false, refl, sym, ap, ◌∙◌, subst, Option, Some, List, ◌∷◌, [], ⊎_elim}
+use Rattle.std.proofs.Common.{◌≡◌, true, false, refl, sym, ap, ◌∙◌, subst, ◌∷◌, [], ⊎_elim}
 use Rattle.std.proofs.lemmas.Cmp.{nat_cmp_total}
 use Rattle.std.specs.FinMap as fin
-use Rattle.cell_world.specs.Texts.{Text}
 use Rattle.cell_world.specs.Keys.{same}
-use Rattle.cell_world.specs.Jobs.{Step, Replace}
+use Rattle.cell_world.specs.Jobs.{Replace}
 use Rattle.cell_world.specs.Orders.{pair_cmp}
 use Rattle.cell_world.specs.Plain.{PlainState}
 use Rattle.cell_world.specs.declared.cells.Status.TheVariants.{Online, Offline}

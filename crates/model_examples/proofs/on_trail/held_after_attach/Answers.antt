@@ -1,4 +1,4 @@
-use Rattle.std.proofs.Common.{◌≡◌, refl, ap, is_some, ◌∷◌, []}
+use Rattle.std.proofs.Common.{refl, ap, is_some, ◌∷◌, []}
 use Rattle.std.specs.FinMap as fin
 use Rattle.cell_world.specs.Orders.{local_cmp, row_cmp}
 use Rattle.cell_world.specs.Plain.{Held}

@@ -1,4 +1,4 @@
-use Rattle.std.proofs.Common.{◌≡◌, sym, ap, is_some, ◌∷◌, []}
+use Rattle.std.proofs.Common.{sym, ap, is_some, ◌∷◌, []}
 use Rattle.std.specs.FinMap as fin
 use Rattle.cell_world.specs.Orders.{row_cmp}
 use Rattle.cell_world.specs.Plain.{Held}

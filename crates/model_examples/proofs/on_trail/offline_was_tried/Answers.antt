@@ -1,7 +1,6 @@
-use Rattle.std.proofs.Common.{◌≡◌, true, false, refl, subst, Option, Some, ◌∷◌, [], inl}
+use Rattle.std.proofs.Common.{true, false, refl, subst, Some, ◌∷◌, [], inl}
 use Rattle.cell_world.specs.Plain.{Connections, Connection}
 use Rattle.cell_world.specs.declared.cells.Status.TheVariants.{Online}
-use Rattle.cell_world.specs.declared.operations.Piece.{Piece}
 use Rattle.plain_model.specs.declared.replies.Reply.TheVariants as reply
 use Rattle.plain_model.specs.OnTrail.{EndsIfTried}
 use Rattle.plain_model.specs.Refusing.{if_there}

@@ -1,4 +1,4 @@
-use Rattle.std.proofs.Common.{◌≡◌, ℕ, ◌≤◌, arith, true, false, refl, sym, ap, ◌∙◌, subst, ◌∷◌, [], ⊎_elim}
+use Rattle.std.proofs.Common.{◌≡◌, ◌≤◌, arith, true, false, refl, sym, ap, ◌∙◌, subst, ◌∷◌, []}
 use Rattle.std.specs.Ordering.{nat_cmp}
 use Rattle.std.proofs.lemmas.Cmp.{nat_cmp_total}
 use Rattle.std.specs.FinMap as fin

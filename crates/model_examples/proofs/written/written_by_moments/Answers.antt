@@ -1,9 +1,5 @@
-use Rattle.std.proofs.Common.{◌≡◌, ℕ, ◌≤◌, arith, true, false, refl, [], ◌∷◌}
-use Rattle.std.specs.Prelude.{codes}
+use Rattle.std.proofs.Common.{◌≤◌, arith}
 use Rattle.plain_model.specs.Lines.{lines_of}
-use Rattle.plain_model.specs.Written.{EachReply}
-use Rattle.plain_model.proofs.WrittenAtMoments.{written_by_moments}
-use Rattle.model_examples.specs.Values.{map_trail}
 use Rattle.model_examples.proofs.LegalRuns.{map_written}
 use Rattle.model_examples.proofs.written.written_by_moments.Goals as goal
 
