@@ -1,11 +1,16 @@
 pub mod Closing
+pub mod FaultCounts
 pub mod Faults
 pub mod JobStates
 pub mod Learning
 pub mod LegalRuns
+pub mod ListRun
+pub mod ListStatus
 pub mod Lookups
 pub mod Maps
 pub mod NearStates
 pub mod Operations
 pub mod Planned
+pub mod Served
 pub mod Texts
+pub mod UnknownLocations

@@ -1,11 +1,10 @@
 -- Small values for the examples: two sites, the map m of small numbers, and a job that moves a range of it.
-use Rattle.std.specs.Prelude.{◌≡◌, ℕ, ◌+◌, ◌==◌, if◌then◌else◌, Bool, true, List, [], ◌∷◌, Some, None, codes, map}
+use Rattle.std.specs.Prelude.{ℕ, ◌+◌, Bool, true, List, [], ◌∷◌, Some, None, codes, map}
 use Rattle.std.specs.FinMap as fin
 use Rattle.std.specs.FinSet as set
 use Rattle.cell_world.specs.Texts.{Text}
 use Rattle.cell_world.specs.Stores.{Store, empty_store, Maps, Mappings, Jobs, AwaySites, Locals, piece_key, local_key}
 use Rattle.cell_world.specs.Images.{Image, Trail, Global, Shard, Happening, Committed, Wrote, empty_image, with_store}
-use Rattle.cell_world.specs.Outside.{Outside, Told, TellsNothing}
 use Rattle.cell_world.specs.Plain.{PlainState, Held, Connections, holds_nothing, nobody}
 use Rattle.cell_world.specs.declared.cells.Away.{Away}
 use Rattle.cell_world.specs.declared.cells.Away.TheVariants.{Detached}
@@ -28,7 +27,6 @@ use Rattle.cell_world.specs.declared.operations.Phase.TheVariants.{Idle, Copying
 use Rattle.cell_world.specs.declared.spans.High.TheVariants.{At}
 use Rattle.cell_world.specs.declared.changes.Edit.{Edit}
 use Rattle.cell_world.specs.declared.changes.Edit.TheVariants.{Put}
-use Rattle.plain_model.specs.declared.commands.Asked.{Asked}
 use Rattle.plain_model.specs.declared.commands.Command.{Command}
 use Rattle.plain_model.specs.declared.commands.Command.TheVariants as command
 use Rattle.plain_model.specs.declared.commands.HighText.TheVariants as word
@@ -39,7 +37,6 @@ use Rattle.plain_model.specs.declared.history.Entry.{Entry}
 use Rattle.plain_model.specs.Timelines.{Made, Past}
 use Rattle.plain_model.specs.JobSteps.{with_extra}
 use Rattle.plain_model.specs.Caches.{Learnt}
-use Rattle.plain_model.specs.Headline.{Causes}
 use Rattle.plain_model.specs.Legal.{AllGoing}
 use Rattle.plain_model.specs.Steps.{exchanging, with_held, with_connection}
 use Rattle.plain_model.specs.Worked.{small_key, small_range, mapping_over, mapping_with}
@@ -324,28 +321,6 @@ closing moment = at_moment (answered 1 (command.Close 1) (reply.Refused refused.
 -- a second `map`, at the moment 2
 abbrev pub second_entry : Entry
 second_entry = at_moment (answered 1 (make_map map_n) reply.Ok) 2
-
--- ---- runs
-
--- a line of a script
-abbrev pub asked : ℕ → Command → Asked
-asked session c = record { session = session; command = c }
-
--- the outside of the two sites: what it tells, how often a call at the global store has failed, and how often writing has
-abbrev pub outside : Told → ℕ → ℕ → Outside
-outside told store sink = record { locations = site_a ∷ site_b ∷ []; told = told; faults_at = λ site. if site == 0 then store else 0; sink_faults = sink; global_reads = 0 }
-
--- before the run nothing was told and nothing had failed
-abbrev pub outside_before : Outside
-outside_before = outside TellsNothing 0 0
-
--- nothing is wrong with the words, the script and its source
-abbrev pub no_causes : Causes
-no_causes = record { bad_words = λ place. ⊥; bad_script = λ line reason. ⊥; too_long = ⊥; source_rose = ⊥ }
-
--- the words go wrong at the first place
-abbrev pub bad_words : Causes
-bad_words = record no_causes { bad_words = λ place. place ≡ 1 }
 
 -- ---- what a run has learnt
 

@@ -1,45 +1,28 @@
-use Rattle.std.proofs.Common.{◌≡◌, ℕ, arith, Bool, true, false, refl, sym, List, [], is_some}
-use Rattle.std.specs.Prelude.{◌==◌, slice_get}
-use Rattle.cell_world.specs.Texts.{Text}
-use Rattle.cell_world.specs.Keys.{same}
-use Rattle.plain_model.specs.declared.commands.Command.{Command}
-use Rattle.plain_model.specs.declared.commands.Command.TheVariants as command
-use Rattle.plain_model.specs.Refusing.{if_there}
-use Rattle.model_examples.specs.Values.{map_m}
-use Rattle.model_examples.proofs.Lookups.{differ}
+use Rattle.std.proofs.Common.{◌≡◌, ◌<◌, arith, true, false, true≢false, refl, sym, ◌∙◌, [], ◌∷◌}
+use Rattle.std.proofs.lemmas.List.{append-nil}
+use Rattle.plain_model.specs.Headline.{AllAnswered, answered_by}
+use Rattle.model_examples.specs.Values.{map_m, map_n, make_map, map_entry, second_entry}
+use Rattle.model_examples.specs.Runs.{asks, two_asked}
+use Rattle.model_examples.proofs.Served.{served, in_order}
 use Rattle.model_examples.proofs.headline.each_once_in_order.Goals as goal
 
--- there are more commands than this
-abbrev has_more : ℕ → List Command → Bool
-has_more n commands = is_some (slice_get commands n)
+all_served : AllAnswered two_asked (map_entry ∷ second_entry ∷ [])
+all_served session = sym (append-nil (answered_by session (map_entry ∷ second_entry ∷ []))) ∙ served (map_entry ∷ second_entry ∷ []) [] (refl, (refl, tt)) session
 
--- a `map` of this name
-abbrev makes : Text → Command → Bool
-makes name (command.Map other kind type) = same name other
-makes name other = false
+pub returns-clause-done : goal.returns-clause-done
+returns-clause-done c = record { in_order = in_order false (map_entry ∷ second_entry ∷ []) [] (refl, (refl, tt)); all = λ done. all_served; all_after_fault = λ failed fault. all_served }
 
--- a `step` of this number
-abbrev steps : ℕ → Command → Bool
-steps number (command.Step other) = other == number
-steps number other = false
+pub returns-clause-stopped_at_a_write : goal.returns-clause-stopped_at_a_write
+returns-clause-stopped_at_a_write c = record { in_order = in_order true (map_entry ∷ []) (asks 1 (make_map map_n) ∷ []) (refl, tt); all = λ done. absurd (true≢false (sym done)); all_after_fault = λ failed. absurd (true≢false (sym failed)) }
 
-pub returns-clause-never_twice : goal.returns-clause-never_twice
-returns-clause-never_twice c f = differ (has_more 1) _ _ (f.in_order.front 1).1 refl refl
+pub returns-clause-opening_failed : goal.returns-clause-opening_failed
+returns-clause-opening_failed c = record { in_order = in_order false [] two_asked tt; all = λ done. absurd (true≢false (sym done)); all_after_fault = λ failed fault. absurd (let e : 0 < 0 = fault in omega arith) }
 
-pub returns-clause-never_in_another_order : goal.returns-clause-never_in_another_order
-returns-clause-never_in_another_order c f = differ (λ commands. if_there (makes map_m) (slice_get commands 1)) _ _ (f.in_order.front 1).1 refl refl
+pub returns-clause-never_done_before_the_end : goal.returns-clause-never_done_before_the_end
+returns-clause-never_done_before_the_end c o = let e : make_map map_m ∷ [] ≡ make_map map_m ∷ make_map map_n ∷ [] = o.all refl 1 in cc
 
-pub returns-clause-never_one_that_was_not_asked : goal.returns-clause-never_one_that_was_not_asked
-returns-clause-never_one_that_was_not_asked c f = differ (has_more 0) _ _ (f.in_order.front 1).1 refl refl
+pub returns-clause-never_refused_before_the_end : goal.returns-clause-never_refused_before_the_end
+returns-clause-never_refused_before_the_end c o = let e : make_map map_m ∷ [] ≡ make_map map_m ∷ make_map map_n ∷ [] = o.all refl 1 in cc
 
-pub returns-clause-never_one_too_few : goal.returns-clause-never_one_too_few
-returns-clause-never_one_too_few c f = differ (λ commands. is_some (slice_get commands 0)) _ _ (sym (f.all refl 1)) refl refl
-
-pub returns-clause-never_ended_by_a_fault : goal.returns-clause-never_ended_by_a_fault
-returns-clause-never_ended_by_a_fault c f = differ (has_more 1) _ _ (sym (f.all_after_fault refl (omega arith) 1)) refl refl
-
-pub returns-clause-never_a_step_of_another_command : goal.returns-clause-never_a_step_of_another_command
-returns-clause-never_a_step_of_another_command c f = differ (steps 1) _ _ (f.in_order.silent 0 _ refl refl _ refl) refl refl
-
-pub returns-clause-never_a_step_without_its_answer : goal.returns-clause-never_a_step_without_its_answer
-returns-clause-never_a_step_without_its_answer c f = let e : false ≡ true = (f.in_order.silent 0 _ refl refl [] refl).0 in cc
+pub returns-clause-never_a_fault_before_the_end : goal.returns-clause-never_a_fault_before_the_end
+returns-clause-never_a_fault_before_the_end c o = let one : 0 < 1 = omega arith in let e : make_map map_m ∷ [] ≡ make_map map_m ∷ make_map map_n ∷ [] = o.all_after_fault refl one 1 in cc

@@ -1,28 +1,34 @@
-use Rattle.std.proofs.Common.{◌≡◌, ◌≤◌, arith, refl, [], ◌∷◌}
+use Rattle.std.proofs.Common.{◌≡◌, ◌≤◌, arith, refl, codes, ◌++◌, []}
 use Rattle.std.specs.Fmt.{digits}
-use Rattle.std.specs.Prelude.{codes}
-use Rattle.plain_model.specs.Written.{summary}
-use Rattle.model_examples.specs.Values.{map_entry, second_entry}
+use Rattle.plain_model.specs.Lines.{lines_of}
+use Rattle.model_examples.specs.Runs.{line, one_summed}
 use Rattle.model_examples.proofs.Texts.{differ_at}
 use Rattle.model_examples.proofs.written.summary_at_a_moment.Goals as goal
 
-pub returns-clause-nothing_at_first : goal.returns-clause-nothing_at_first
-returns-clause-nothing_at_first c = record { quiet = λ le. refl; front = λ le. (summary (map_entry ∷ second_entry ∷ []), refl) }
+pub returns-clause-none_by_the_entry : goal.returns-clause-none_by_the_entry
+unfolding digits lines_of
+returns-clause-none_by_the_entry c = record { quiet = λ by. refl; front = λ after. (one_summed, refl) }
 
-pub returns-clause-nothing_at_the_last : goal.returns-clause-nothing_at_the_last
-returns-clause-nothing_at_the_last c = record { quiet = λ le. refl; front = λ le. (summary (map_entry ∷ second_entry ∷ []), refl) }
+pub returns-clause-none_after_it : goal.returns-clause-none_after_it
+unfolding digits lines_of
+returns-clause-none_after_it c = record { quiet = λ by. refl; front = λ after. (one_summed, refl) }
 
 pub returns-clause-a_front : goal.returns-clause-a_front
-unfolding digits
-returns-clause-a_front c = record { quiet = λ (le : 3 ≤ 2). absurd (omega arith); front = λ le. (codes "used 0\nfault 0\n", refl) }
+unfolding digits lines_of
+returns-clause-a_front c = record { quiet = λ by. absurd (let e : 2 ≤ 1 = by in omega arith); front = λ after. (line (codes "ands 1") ++ line (codes "ok 1") ++ line (codes "refused 0") ++ line (codes "fault 0"), refl) }
 
-pub returns-clause-never_a_line_of_a_reply : goal.returns-clause-never_a_line_of_a_reply
-unfolding digits
-returns-clause-never_a_line_of_a_reply c f = differ_at 0 111 _ _ (f.front (omega arith)).1 refl refl
+pub returns-clause-the_lines : goal.returns-clause-the_lines
+unfolding digits lines_of
+returns-clause-the_lines c = record { quiet = λ by. absurd (let e : 2 ≤ 1 = by in omega arith); front = λ after. ([], refl) }
 
-pub returns-clause-never_before_the_last : goal.returns-clause-never_before_the_last
-returns-clause-never_before_the_last c f = let e : codes "c" ≡ [] = f.quiet (omega arith) in cc
+pub returns-clause-never_before_the_last_entry : goal.returns-clause-never_before_the_last_entry
+unfolding digits lines_of
+returns-clause-never_before_the_last_entry c w = let by : 2 ≤ 2 = omega arith in let e : codes "c" ≡ [] = w.quiet by in cc
 
-pub returns-clause-never_another_count : goal.returns-clause-never_another_count
-unfolding digits
-returns-clause-never_another_count c f = differ_at 9 49 _ _ (f.front (omega arith)).1 refl refl
+pub returns-clause-never_a_reply : goal.returns-clause-never_a_reply
+unfolding digits lines_of
+returns-clause-never_a_reply c w = let after : 1 ≤ 2 = omega arith in differ_at 0 111 _ _ (w.front after).1 refl refl
+
+pub returns-clause-never_without_an_entry : goal.returns-clause-never_without_an_entry
+unfolding digits lines_of
+returns-clause-never_without_an_entry c w = let after : 0 ≤ 1 = omega arith in let front = w.front after in let e : codes "c" ++ front.0 ≡ [] = front.1 in cc

@@ -1,0 +1,15 @@
+use Rattle.std.proofs.Common.{refl}
+use Rattle.model_examples.specs.Runs.{site_d}
+use Rattle.model_examples.proofs.Lookups.{differ}
+use Rattle.model_examples.proofs.UnknownLocations.{none_unknown, c_is_first, first_is_c}
+use Rattle.cell_world.specs.Keys.{same}
+use Rattle.model_examples.proofs.headline.caused_by_opening.Goals as goal
+
+pub returns-clause-unknown : goal.returns-clause-unknown
+returns-clause-unknown c = c_is_first
+
+pub returns-clause-never_the_second : goal.returns-clause-never_the_second
+returns-clause-never_the_second c f = differ (same site_d) _ _ (first_is_c site_d f) refl refl
+
+pub returns-clause-never_of_empty_stores : goal.returns-clause-never_of_empty_stores
+returns-clause-never_of_empty_stores c f = none_unknown _ _ f

@@ -1,0 +1,32 @@
+use Rattle.std.proofs.Common.{ℕ, ◌≡◌, arith, false, refl, sym, subst, [], ◌∷◌}
+use Rattle.cell_world.specs.Images.{Trail}
+use Rattle.cell_world.specs.Outside.{TellsNothing, TellsTrail}
+use Rattle.plain_model.specs.declared.commands.Command.TheVariants as command
+use Rattle.plain_model.specs.Lines.{lines_of, refusal_text}
+use Rattle.plain_model.specs.Written.{EachReply, AllWritten}
+use Rattle.model_examples.specs.Values.{map_m, map_n, site_a, site_b, make_map, trail_of}
+use Rattle.model_examples.specs.Runs.{list_trail, list_refused, no_map_line}
+use Rattle.model_examples.proofs.ListRun.{runs, is_legal, only_this, once}
+use Rattle.model_examples.proofs.UnknownLocations.{none_unknown}
+use Rattle.model_examples.proofs.ListStatus.{caused}
+use Rattle.model_examples.proofs.headline.headline.Goals as goal
+
+pub returns-clause-one_refused : goal.returns-clause-one_refused
+unfolding lines_of refusal_text
+returns-clause-one_refused c = record { trail = list_trail; told = refl; goes_on = record { start = refl; front = refl }; sound = record { sound = runs.sound }; legal = is_legal; written = only_this; served = once; status = caused (TellsTrail (trail_of [])) (TellsTrail list_trail) (none_unknown (site_a ∷ site_b ∷ [])) }
+
+pub returns-clause-never_untold : goal.returns-clause-never_untold
+unfolding lines_of refusal_text
+returns-clause-never_untold c h = let e : TellsNothing ≡ TellsTrail h.trail = h.told in cc
+
+pub returns-clause-never_unwritten : goal.returns-clause-never_unwritten
+unfolding lines_of refusal_text
+returns-clause-never_unwritten c h = let told : TellsTrail (trail_of []) ≡ TellsTrail h.trail = h.told in let is : trail_of [] ≡ h.trail = cc in let e : [] ≡ no_map_line = subst (λ (trail : Trail). AllWritten (EachReply false) trail 0 (list_refused ∷ [])) (sym is) (h.written.all refl) in cc
+
+pub returns-clause-never_of_another_script : goal.returns-clause-never_of_another_script
+unfolding lines_of refusal_text
+returns-clause-never_of_another_script c h = let e : command.List map_m ∷ (h.served.in_order.front 1).0 ≡ make_map map_m ∷ make_map map_n ∷ [] = (h.served.in_order.front 1).1 in cc
+
+pub returns-clause-never_as_done : goal.returns-clause-never_as_done
+unfolding lines_of refusal_text
+returns-clause-never_as_done c h = let e : ◌≡◌ {A = ℕ} 1 0 = h.status.cause.0 in omega arith
