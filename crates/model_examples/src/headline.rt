@@ -10,7 +10,7 @@ ghost use Rattle.plain_model.specs.declared.replies.Refusal.TheVariants as refus
 ghost use Rattle.plain_model.specs.declared.replies.Reply.TheVariants as reply;
 ghost use Rattle.plain_model.specs.Headline.{SoundAtEachMoment, IsLeftGoing, IsLegalHistory, OnlyWhatHappened, InOrder, EachOnceInOrder, EndsAnswered, EndsWithMemory, IsFirstUnknown, StatusCause, ComesByInput, ComesByOpening, KeepsToStatus, StatusHasCause, GoesOnFrom, Headline, FollowsTo, IsLegalByStates, HeadlineAlone};
 ghost use Rattle.plain_model.specs.Written.{EachReply};
-ghost use Rattle.model_examples.specs.Values.{map_trail, answered, map_m, map_n, site_a, site_b, make_map, two_sites, with_global, empty_state, with_map, at_moment, map_entry, second_entry, trail_of};
+ghost use Rattle.model_examples.specs.Values.{map_commit, map_trail, answered, map_m, map_n, site_a, site_b, make_map, two_sites, with_global, empty_state, with_map, at_moment, map_entry, second_entry, trail_of};
 ghost use Rattle.model_examples.specs.Runs.{nothing_done, list_trail, list_asked, list_refused, silent_step, ok_line, step_done, map_answered, asks, two_asked, going_at, world_of, with_faults, with_sink_fault, nothing_wrong, wrong_words, wrong_line, too_many_bytes, source_failed, without_number, unknown_store, site_c, site_d};
 
 // ---- sound, legal, and written
@@ -36,6 +36,7 @@ pub fn only_what_happened()
     ensures all { OnlyWhatHappened (EachReply false) list_trail 0 (list_refused ∷ []) status.Refused }
     ensures of_one_map { OnlyWhatHappened (EachReply false) map_trail 0 (map_entry ∷ []) status.Done }
     ensures but_the_last_line { OnlyWhatHappened (EachReply false) (trail_of []) 0 (list_refused ∷ []) status.WriteFault }
+    ensures but_the_line_of_a_map { OnlyWhatHappened (EachReply false) (trail_of (map_commit ∷ [])) 0 (map_entry ∷ []) status.WriteFault }
     ensures never_less_unless_it_stopped { OnlyWhatHappened (EachReply false) (trail_of []) 0 (list_refused ∷ []) status.Refused → ⊥ }
     ensures never_less_where_the_last_has_no_line { OnlyWhatHappened (EachReply false) (trail_of []) 0 (list_refused ∷ at_moment silent_step 0 ∷ []) status.WriteFault → ⊥ }
     ensures never_too_early { OnlyWhatHappened (EachReply false) (trail_of (Wrote ok_line ∷ nothing_done ∷ [])) 0 (second_entry ∷ []) status.Done → ⊥ }

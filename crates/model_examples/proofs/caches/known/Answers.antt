@@ -8,7 +8,7 @@ use Rattle.plain_model.specs.Caches.{Learnt}
 use Rattle.plain_model.specs.Worked.{small_key, small_range}
 use Rattle.model_examples.specs.Values.{site_a}
 use Rattle.model_examples.proofs.Lookups.{differ}
-use Rattle.model_examples.proofs.Learning.{is_known, only_known, word_of, key_7, key_10}
+use Rattle.model_examples.proofs.Learning.{drops_lost, drops_replaced, is_known, only_known, word_of, key_7, key_10}
 use Rattle.model_examples.proofs.caches.known.Goals as goal
 
 pub returns-clause-learnt_before : goal.returns-clause-learnt_before
@@ -19,6 +19,27 @@ not_one e = omega arith
 
 pub returns-clause-dropped_by_another_session : goal.returns-clause-dropped_by_another_session
 returns-clause-dropped_by_another_session c = record {
+  text = codes "7";
+  asked = refl;
+  same = refl;
+  key = small_key 7;
+  form = key_7;
+  contained = refl;
+  learnt = inr (omega arith, (λ mine drops. not_one mine), inl (refl, is_known));
+}
+
+-- what was learnt at place 0 wasn't learnt by the entry at place 1
+not_now : ◌≡◌ {A = ℕ} 0 1 → ⊥
+not_now e = omega arith
+
+pub returns-clause-never_lost_by_itself : goal.returns-clause-never_lost_by_itself
+returns-clause-never_lost_by_itself c f = ⊎_elim (λ here. not_now here.0) (λ before. before.1 refl drops_lost) f.learnt
+
+pub returns-clause-never_replaced_by_itself : goal.returns-clause-never_replaced_by_itself
+returns-clause-never_replaced_by_itself c f = ⊎_elim (λ here. not_now here.0) (λ before. before.1 refl drops_replaced) f.learnt
+
+pub returns-clause-replaced_by_another_session : goal.returns-clause-replaced_by_another_session
+returns-clause-replaced_by_another_session c = record {
   text = codes "7";
   asked = refl;
   same = refl;

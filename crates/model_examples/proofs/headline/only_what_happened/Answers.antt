@@ -4,7 +4,7 @@ use Rattle.plain_model.specs.Written.{EachReply, WrittenAt}
 use Rattle.model_examples.specs.Values.{trail_of}
 use Rattle.model_examples.specs.Runs.{list_refused, no_map_line}
 use Rattle.model_examples.proofs.ListRun.{only_this}
-use Rattle.model_examples.proofs.LegalRuns.{map_written}
+use Rattle.model_examples.proofs.LegalRuns.{map_written, map_unwritten_so_far}
 use Rattle.model_examples.proofs.headline.only_what_happened.Goals as goal
 
 pub returns-clause-all : goal.returns-clause-all
@@ -30,3 +30,6 @@ returns-clause-never_too_early c h = let from : 0 ≤ 1 = omega arith in let to 
 pub returns-clause-of_one_map : goal.returns-clause-of_one_map
 unfolding lines_of refusal_text
 returns-clause-of_one_map c = record { written = map_written; all = λ ran. refl; last = inl refl }
+
+pub returns-clause-but_the_line_of_a_map : goal.returns-clause-but_the_line_of_a_map
+returns-clause-but_the_line_of_a_map c = record { written = map_unwritten_so_far; all = λ ran. absurd (true≢false ran); last = inr refl }
