@@ -166,6 +166,8 @@ pub fn comes_by_opening()
     ensures nothing_unknown { ComesByOpening (world_of (TellsContents two_sites)) status.Done }
     ensures never_done { ComesByOpening (world_of (TellsContents (with_global unknown_store))) status.Done → ⊥ }
     ensures never_a_write_fault { ComesByOpening (world_of (TellsContents (with_global unknown_store))) status.WriteFault → ⊥ }
+    ensures nothing_told { ComesByOpening (world_of TellsNothing) status.Done }
+    ensures never_done_on_a_trail { ComesByOpening (world_of (TellsTrail (trail_of (Reopened Global unknown_store ∷ [])))) status.Done → ⊥ }
     ensures never_the_second { ComesByOpening (world_of (TellsContents (with_global unknown_store))) (status.UnknownLocation site_d) → ⊥ }
 {}
 
@@ -218,6 +220,9 @@ pub fn goes_on_from()
 pub fn headline()
     ensures one_refused { Headline (EachReply false) nothing_wrong list_asked (trail_of []) (world_of (TellsTrail (trail_of []))) (world_of (TellsTrail list_trail)) (list_refused ∷ []) status.Refused }
     ensures never_untold { Headline (EachReply false) nothing_wrong list_asked (trail_of []) (world_of (TellsTrail (trail_of []))) (world_of TellsNothing) (list_refused ∷ []) status.Refused → ⊥ }
+    ensures never_from_another_trail { Headline (EachReply false) nothing_wrong list_asked (trail_of (nothing_done ∷ [])) (world_of (TellsTrail (trail_of (nothing_done ∷ [])))) (world_of (TellsTrail list_trail)) (list_refused ∷ []) status.Refused → ⊥ }
+    ensures never_unsound { Headline (EachReply false) nothing_wrong [] (trail_of (Reopened Global without_number ∷ [])) (world_of (TellsTrail (trail_of (Reopened Global without_number ∷ [])))) (world_of (TellsTrail (trail_of (Reopened Global without_number ∷ [])))) [] status.Done → ⊥ }
+    ensures never_past_the_end { Headline (EachReply false) nothing_wrong (asks 1 (make_map map_m) ∷ []) (trail_of []) (world_of (TellsTrail (trail_of []))) (world_of (TellsTrail (trail_of []))) (map_entry ∷ []) status.WriteFault → ⊥ }
     ensures never_unwritten { Headline (EachReply false) nothing_wrong list_asked (trail_of []) (world_of (TellsTrail (trail_of []))) (world_of (TellsTrail (trail_of []))) (list_refused ∷ []) status.Refused → ⊥ }
     ensures never_of_another_script { Headline (EachReply false) nothing_wrong two_asked (trail_of []) (world_of (TellsTrail (trail_of []))) (world_of (TellsTrail list_trail)) (list_refused ∷ []) status.Refused → ⊥ }
     ensures never_as_done { Headline (EachReply false) nothing_wrong list_asked (trail_of []) (world_of (TellsTrail (trail_of []))) (world_of (TellsTrail list_trail)) (list_refused ∷ []) status.Done → ⊥ }

@@ -26,3 +26,9 @@ returns-clause-never_a_write_fault c h = ⊎_elim (λ e. let f : status.WriteFau
 
 pub returns-clause-never_the_second : goal.returns-clause-never_the_second
 returns-clause-never_the_second c h = ⊎_elim (λ e. let f : status.UnknownLocation site_d ≡ status.UnknownLocation site_c = e in let n : site_d ≡ site_c = cc in differ (same site_d) _ _ n refl refl) (λ e. true≢false (sym e)) (h site_c c_is_first)
+
+pub returns-clause-nothing_told : goal.returns-clause-nothing_told
+returns-clause-nothing_told c location f = absurd f
+
+pub returns-clause-never_done_on_a_trail : goal.returns-clause-never_done_on_a_trail
+returns-clause-never_done_on_a_trail c h = ⊎_elim (λ e. let f : status.Done ≡ status.UnknownLocation site_c = e in cc) (λ e. true≢false (sym e)) (h site_c c_is_first)

@@ -1,15 +1,20 @@
-use Rattle.std.proofs.Common.{ℕ, ◌≡◌, arith, false, refl, sym, subst, [], ◌∷◌}
-use Rattle.cell_world.specs.Images.{Trail}
+use Rattle.std.proofs.Common.{true, ℕ, ◌≡◌, arith, false, refl, sym, subst, [], ◌∷◌, ◌≤◌}
+use Rattle.cell_world.specs.Images.{Trail, Global, Wrote, Reopened}
 use Rattle.cell_world.specs.Outside.{TellsNothing, TellsTrail}
 use Rattle.plain_model.specs.declared.commands.Command.TheVariants as command
 use Rattle.plain_model.specs.Lines.{lines_of, refusal_text}
 use Rattle.plain_model.specs.Written.{EachReply, AllWritten}
-use Rattle.model_examples.specs.Values.{map_m, map_n, site_a, site_b, make_map, trail_of}
-use Rattle.model_examples.specs.Runs.{list_trail, list_refused, no_map_line}
+use Rattle.plain_model.specs.Headline.{SoundAtEachMoment, IsLegalHistory, GoesOnFrom}
+use Rattle.model_examples.specs.Values.{map_m, map_n, site_a, site_b, make_map, trail_of, map_entry}
+use Rattle.model_examples.specs.Runs.{list_trail, list_refused, no_map_line, nothing_done, without_number, asks}
 use Rattle.model_examples.proofs.ListRun.{runs, is_legal, only_this, once}
 use Rattle.model_examples.proofs.UnknownLocations.{none_unknown}
 use Rattle.model_examples.proofs.ListStatus.{caused}
 use Rattle.model_examples.proofs.headline.headline.Goals as goal
+
+-- what is told is the trail
+told_is : (told trail : Trail) → TellsTrail told ≡ TellsTrail trail → told ≡ trail
+told_is told trail e = cc
 
 pub returns-clause-one_refused : goal.returns-clause-one_refused
 unfolding lines_of refusal_text
@@ -30,3 +35,18 @@ returns-clause-never_of_another_script c h = let e : command.List map_m ∷ (h.s
 pub returns-clause-never_as_done : goal.returns-clause-never_as_done
 unfolding lines_of refusal_text
 returns-clause-never_as_done c h = let e : ◌≡◌ {A = ℕ} 1 0 = h.status.cause.0 in omega arith
+
+pub returns-clause-never_from_another_trail : goal.returns-clause-never_from_another_trail
+returns-clause-never_from_another_trail c h =
+    let from : GoesOnFrom (trail_of (nothing_done ∷ [])) list_trail = subst (GoesOnFrom (trail_of (nothing_done ∷ []))) (sym (told_is list_trail h.trail h.told)) h.goes_on in
+    let e : Wrote no_map_line ∷ [] ≡ nothing_done ∷ [] = from.front in cc
+
+pub returns-clause-never_unsound : goal.returns-clause-never_unsound
+returns-clause-never_unsound c h =
+    let sound : SoundAtEachMoment (trail_of (Reopened Global without_number ∷ [])) 1 = subst (λ (trail : Trail). SoundAtEachMoment trail 1) (sym (told_is (trail_of (Reopened Global without_number ∷ [])) h.trail h.told)) h.sound in
+    let now : 1 ≤ 1 = omega arith in let e : 1 ≤ 0 = (sound.sound 1 now now).globals.operations.0 in omega arith
+
+pub returns-clause-never_past_the_end : goal.returns-clause-never_past_the_end
+returns-clause-never_past_the_end c h =
+    let legal : IsLegalHistory true (trail_of []) 0 (asks 1 (make_map map_m) ∷ []) (map_entry ∷ []) = subst (λ (trail : Trail). IsLegalHistory true trail 0 (asks 1 (make_map map_m) ∷ []) (map_entry ∷ [])) (sym (told_is (trail_of []) h.trail h.told)) h.legal in
+    let e : 1 ≤ 0 = legal.legal.ends in omega arith
