@@ -1,16 +1,23 @@
 //! Examples of the five parts of what a run promises.
-ghost use Rattle.std.specs.Prelude.{[], ◌∷◌, Some, None, true, false, codes};
+ghost use Rattle.std.specs.Prelude.{◌≡◌, [], ◌∷◌, Some, None, true, false, codes};
 ghost use Rattle.cell_world.specs.Stores.{empty_store};
 ghost use Rattle.cell_world.specs.Images.{Global, Wrote, Reopened, empty_image};
 ghost use Rattle.cell_world.specs.Outside.{TellsNothing, TellsContents, TellsTrail};
+ghost use Rattle.cell_world.specs.declared.cells.Away.TheVariants.{Suspect};
+ghost use Rattle.cell_world.specs.declared.cells.Cell.TheVariants as cell;
+ghost use Rattle.cell_world.specs.declared.cells.KeyType.TheVariants.{Int};
+ghost use Rattle.cell_world.specs.declared.cells.MapKind.TheVariants as kind;
+ghost use Rattle.cell_world.specs.declared.cells.Status.TheVariants.{Online};
+ghost use Rattle.cell_world.specs.declared.operations.Phase.TheVariants.{Idle};
 ghost use Rattle.plain_model.specs.declared.commands.Command.TheVariants as command;
 ghost use Rattle.plain_model.specs.declared.finish.Reason.TheVariants.{BadByte, LongLine};
 ghost use Rattle.plain_model.specs.declared.finish.RunStatus.TheVariants as status;
 ghost use Rattle.plain_model.specs.declared.replies.Refusal.TheVariants as refused;
 ghost use Rattle.plain_model.specs.declared.replies.Reply.TheVariants as reply;
-ghost use Rattle.plain_model.specs.Headline.{SoundAtEachMoment, IsLeftGoing, IsLegalHistory, OnlyWhatHappened, InOrder, EachOnceInOrder, EndsAnswered, EndsWithMemory, IsFirstUnknown, StatusCause, ComesByInput, ComesByOpening, KeepsToStatus, StatusHasCause, GoesOnFrom, Headline, FollowsTo, IsLegalByStates, HeadlineAlone};
+ghost use Rattle.plain_model.specs.Headline.{SoundAtEachMoment, IsLeftGoing, IsLegalHistory, OnlyWhatHappened, InOrder, EachOnceInOrder, EndsAnswered, EndsWithMemory, named_locations, IsFirstUnknown, StatusCause, ComesByInput, ComesByOpening, KeepsToStatus, StatusHasCause, GoesOnFrom, Headline, FollowsTo, IsLegalByStates, HeadlineAlone};
 ghost use Rattle.plain_model.specs.Written.{EachReply};
-ghost use Rattle.model_examples.specs.Values.{map_commit, map_trail, answered, map_m, map_n, site_a, site_b, make_map, two_sites, with_global, empty_state, with_map, at_moment, map_entry, second_entry, trail_of};
+ghost use Rattle.plain_model.specs.Worked.{small_range, mapping_over};
+ghost use Rattle.model_examples.specs.Values.{move_op, job_at, row_m, map_commit, map_trail, answered, map_m, map_n, site_a, site_b, make_map, two_sites, with_global, empty_state, with_map, at_moment, map_entry, second_entry, trail_of};
 ghost use Rattle.model_examples.specs.Runs.{nothing_done, list_trail, list_asked, list_refused, silent_step, ok_line, step_done, map_answered, asks, two_asked, going_at, world_of, with_faults, with_sink_fault, nothing_wrong, wrong_words, wrong_line, too_many_bytes, source_failed, without_number, unknown_store, site_c, site_d};
 
 // ---- sound, legal, and written
@@ -140,6 +147,17 @@ pub fn comes_by_input()
     ensures never_past_a_wrong_line { ComesByInput wrong_line status.Done → ⊥ }
     ensures never_another_line { ComesByInput wrong_line (status.BadScript 1 BadByte) → ⊥ }
     ensures never_a_store_fault_before_the_script { ComesByInput wrong_line status.StoreFault → ⊥ }
+{}
+
+/// The locations that a cell names.
+pub fn locations_of_cells()
+    ensures shard { named_locations (cell.Shard map_m site_a) ≡ site_a ∷ [] }
+    ensures mapping { named_locations (cell.Piece (mapping_over (small_range 0 10) Online)) ≡ site_a ∷ [] }
+    ensures log_olds_news_and_job { named_locations (cell.Log move_op) ≡ site_a ∷ site_b ∷ site_a ∷ site_b ∷ [] }
+    ensures job { named_locations (cell.Job (job_at 0 Idle)) ≡ site_a ∷ site_b ∷ [] }
+    ensures site_state { named_locations (cell.SiteState site_b Suspect) ≡ site_b ∷ [] }
+    ensures none_of_a_map { named_locations (cell.Map map_m kind.Range Int) ≡ [] }
+    ensures none_of_a_row { named_locations (cell.Row (row_m 5) []) ≡ [] }
 {}
 
 /// Of the locations that cells name and the world doesn't know, the first in cell order.
