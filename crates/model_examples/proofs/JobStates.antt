@@ -1,12 +1,16 @@
 -- What the states of job 1 say: its row, the mappings, and what a step that was taken made of them.
-use Rattle.std.proofs.Common.{◌≡◌, ℕ, Bool, true, refl, sym, ap, ◌∙◌, subst, Some, None, List, [], ◌∷◌, is_some}
-use Rattle.std.specs.Ordering.{nat_cmp}
+use Rattle.std.proofs.Common.{◌≡◌, not, ℕ, Bool, true, refl, sym, ap, ◌∙◌, subst, Some, None, List, [], ◌∷◌, is_some, false, cond}
+use Rattle.std.specs.Ordering.{nat_cmp, eq_by_cmp}
 use Rattle.std.proofs.lemmas.Cmp.{nat_cmp_total}
 use Rattle.std.specs.FinMap as fin
+use Rattle.std.specs.FinMap.{nat_cmp-IsAntisymmetric}
+use Rattle.cell_world.specs.Texts.{Text}
+use Rattle.cell_world.specs.Stores.{Mappings, Jobs}
 use Rattle.cell_world.specs.ByteOrder.{byte_cmp}
 use Rattle.cell_world.specs.Orders.{pair_cmp}
-use Rattle.cell_world.specs.Plain.{PlainState, Held}
-use Rattle.cell_world.specs.Jobs.{Step, Replace}
+use Rattle.cell_world.specs.Plain.{PlainState, Held, Connections, nobody, owner}
+use Rattle.cell_world.specs.Jobs.{Step, TableRow, UpTo, Replace, Gives, IsBatchEnd, table_row, batch_row, cursor_piece}
+use Rattle.cell_world.specs.Keys.{end_below}
 use Rattle.cell_world.specs.declared.cells.KeyType.TheVariants.{Int}
 use Rattle.cell_world.specs.declared.cells.MapKind.TheVariants as kind
 use Rattle.cell_world.specs.declared.cells.Status.TheVariants.{Online, Offline}
@@ -14,16 +18,18 @@ use Rattle.cell_world.specs.declared.operations.Piece.{Piece}
 use Rattle.cell_world.specs.declared.operations.JobRow.{JobRow}
 use Rattle.cell_world.specs.declared.operations.Extra.TheVariants as extra
 use Rattle.cell_world.specs.declared.operations.Phase.{Phase}
-use Rattle.cell_world.specs.declared.operations.Phase.TheVariants.{Copying, Moved}
+use Rattle.cell_world.specs.declared.operations.Phase.TheVariants.{Copying, Moved, Idle}
+use Rattle.cell_world.specs.declared.spans.High.{High}
 use Rattle.cell_world.specs.declared.spans.High.TheVariants.{At}
+use Rattle.cell_world.proofs.OrderLaws.{pairs_total, exact_text_pairs}
 use Rattle.plain_model.specs.declared.commands.Command.TheVariants as command
 use Rattle.plain_model.specs.declared.replies.Reply.{Reply}
 use Rattle.plain_model.specs.declared.replies.Reply.TheVariants as reply
-use Rattle.plain_model.specs.JobSteps.{TakesJobStep, stepped, is_moved}
+use Rattle.plain_model.specs.JobSteps.{TakesJobStep, IsOfflineStep, stepped, finished, is_moved}
 use Rattle.plain_model.specs.Refusing.{refusal, if_there}
 use Rattle.plain_model.specs.Steps.{plain_step, refused_or_done}
-use Rattle.plain_model.specs.Worked.{small_key}
-use Rattle.model_examples.specs.Values.{map_m, map_n, site_a, site_b, entries_m, maps_m, keyed_pieces, numbered_jobs, jobs_of, with_map, state_with, job_at, job_piece, copying_state, after_move}
+use Rattle.plain_model.specs.Worked.{small_key, small_range, mapping_over}
+use Rattle.model_examples.specs.Values.{map_m, map_n, site_a, site_b, entries_m, maps_m, keyed_pieces, numbered_jobs, jobs_of, with_map, state_with, job_at, job_piece, copying_state, after_move, fresh_state, after_split, all_moved_state, finished_state}
 use Rattle.model_examples.proofs.Lookups.{get_of, entries_of, differ}
 use Rattle.model_examples.proofs.Maps.{has_map, has_it}
 
@@ -87,3 +93,55 @@ only_moves B job stands takes =
 
 pub move_shows : is_batch_moved after_move ≡ true
 move_shows = ap (if_there (λ (job : JobRow). is_moved job.phase)) (fin.get-insert nat_cmp_total copying_state.jobs 1 (job_at 0 (Moved (At (small_key 5)))) 1)
+
+-- ---- the offline of the whole range, and a split at another key
+
+pub fresh_owner : (connections : Connections) → cursor_piece (owner (record fresh_state { connections = connections })) (job_at 0 Idle) ≡ Some (job_piece 0 10 site_a Online)
+fresh_owner connections = rw (m_stands, entries_of pair_cmp (keyed_pieces (job_piece 0 10 site_a Online ∷ [])) tt) refl
+
+-- the row of the table depends on the batch end
+pub fresh_row : (connections : Connections) → table_row (owner (record fresh_state { connections = connections })) fresh_state.mappings (job_at 0 Idle) ≡ UpTo (batch_row (job_at 0 Idle) (job_piece 0 10 site_a Online))
+fresh_row connections = rw (entries_of pair_cmp (keyed_pieces (job_piece 0 10 site_a Online ∷ [])) tt, m_stands, entries_of pair_cmp (keyed_pieces (job_piece 0 10 site_a Online ∷ [])) tt) refl
+
+-- every end up to 10 may be one
+pub may_end : (connections : Connections) (end : High) → end_below (At (small_key 0)) end ≡ true → end_below (At (small_key 10)) end ≡ false → IsBatchEnd (owner (record fresh_state { connections = connections })) (job_at 0 Idle) end
+may_end connections end above within = record { above = above; piece = job_piece 0 10 site_a Online; owned = fresh_owner connections; within = ap not within }
+
+pub splits_at_3 : TakesJobStep fresh_state after_split (job_at 0 Idle)
+splits_at_3 = record {
+  step = Replace (job_piece 0 10 site_a Online ∷ []) (job_piece 0 3 site_a Online ∷ job_piece 3 10 site_a Online ∷ []) extra.None;
+  row = subst (λ (row : TableRow). Gives (IsBatchEnd (owner fresh_state) (job_at 0 Idle)) row (Replace (job_piece 0 10 site_a Online ∷ []) (job_piece 0 3 site_a Online ∷ job_piece 3 10 site_a Online ∷ []) extra.None)) (sym (fresh_row nobody))
+      (At (small_key 3), may_end nobody (At (small_key 3)) refl refl, refl);
+  after = refl;
+}
+
+pub takes_offline : (connections : Connections) → IsOfflineStep (record fresh_state { connections = connections }) (job_at 0 Idle) (job_piece 0 10 site_a Online)
+takes_offline connections = record {
+  put = extra.JobPut (job_at 0 (Copying (At (small_key 10))));
+  row = subst (λ (row : TableRow). Gives (IsBatchEnd (owner (record fresh_state { connections = connections })) (job_at 0 Idle)) row (Replace (job_piece 0 10 site_a Online ∷ []) (job_piece 0 10 site_a Offline ∷ []) (extra.JobPut (job_at 0 (Copying (At (small_key 10))))))) (sym (fresh_row connections))
+      (At (small_key 10), may_end connections (At (small_key 10)) refl refl, refl);
+}
+
+-- ---- the finish
+
+pub finishes : finished all_moved_state (job_at 10 Idle) ≡ finished_state
+finishes = rw (entries_of pair_cmp (keyed_pieces (job_piece 0 10 site_b Online ∷ [])) tt)
+    (ap (λ (mappings : Mappings). record all_moved_state { mappings = mappings; jobs = fin.remove all_moved_state.jobs 1 }) free
+    ∙ ap (λ (jobs : Jobs). record finished_state { jobs = jobs }) no_more)
+  where
+    pieces : List ((Text × Text) × Piece)
+    pieces = keyed_pieces (record (mapping_over (small_range 0 10) Online) { location = site_b } ∷ [])
+
+    free : fin.from_entries pieces ≡ finished_state.mappings
+    free = fin.same_map pairs_total exact_text_pairs _ _ (λ key. fin.get-from_entries pairs_total pieces key ∙ sym (get_of pair_cmp pieces tt key))
+
+    either : (is : Bool) → cond is None (cond is (Some (job_at 10 Idle)) None) ≡ None
+    either true = refl
+    either false = refl
+
+    no_more : fin.remove all_moved_state.jobs 1 ≡ finished_state.jobs
+    no_more = fin.same_map nat_cmp_total nat_cmp-IsAntisymmetric _ _ (λ number.
+        fin.get-remove nat_cmp_total all_moved_state.jobs 1 number
+        ∙ ap (cond (eq_by_cmp nat_cmp number 1) None) (get_of nat_cmp (numbered_jobs (job_at 10 Idle ∷ [])) tt number)
+        ∙ either (eq_by_cmp nat_cmp number 1)
+        ∙ sym (no_job number))

@@ -2,12 +2,10 @@
 use Rattle.std.proofs.Common.{◌≡◌, ℕ, false, ◌+◌, arith, refl, sym, ap, ◌∙◌, [], ◌∷◌, length}
 use Rattle.std.specs.FinMap as fin
 use Rattle.cell_world.specs.ByteOrder.{byte_cmp}
-use Rattle.cell_world.specs.Images.{Global, Wrote, with_store, global}
+use Rattle.cell_world.specs.Images.{Wrote}
 use Rattle.cell_world.specs.Meaning.{meaning}
 use Rattle.cell_world.specs.Plain.{PlainState, nobody, holds_nothing, with_connections}
 use Rattle.cell_world.specs.Sound.{Sound}
-use Rattle.cell_world.specs.Stores.{put}
-use Rattle.cell_world.specs.declared.cells.Cell.TheVariants as cell
 use Rattle.cell_world.specs.declared.cells.KeyType.{KeyType}
 use Rattle.cell_world.specs.declared.cells.KeyType.TheVariants.{Int}
 use Rattle.cell_world.specs.declared.cells.MapKind.{MapKind}
@@ -23,7 +21,7 @@ use Rattle.plain_model.specs.Running.{AllSound}
 use Rattle.plain_model.specs.Written.{EachReply, WrittenByMoments}
 use Rattle.plain_model.proofs.NearLaws.{near_itself}
 use Rattle.plain_model.proofs.WrittenAtMoments.{written_by_moments}
-use Rattle.model_examples.specs.Values.{site_a, site_b, map_m, two_sites, trail_of, nothing_going, map_trail, map_commit, map_entry, closing}
+use Rattle.model_examples.specs.Values.{site_a, site_b, map_m, two_sites, trail_of, nothing_going, map_trail, map_commit, image_m, map_entry, closing}
 use Rattle.std.specs.Prelude.{codes}
 use Rattle.model_examples.proofs.Closing.{not_open, makes_first}
 
@@ -32,7 +30,7 @@ no_history = record { timeline = []; happened = refl; entries = refl; connection
 
 -- ---- one map
 
-means_m : meaning (with_store two_sites Global (put (global two_sites) (cell.Map map_m kind.Range Int))) ≡ record (meaning two_sites) { maps = fin.insert fin.empty map_m (kind.Range, Int) }
+means_m : meaning image_m ≡ record (meaning two_sites) { maps = fin.insert fin.empty map_m (kind.Range, Int) }
 means_m = meaning-put_map two_sites (empty_sound (site_a ∷ site_b ∷ [])) map_m kind.Range Int (fin.get-empty byte_cmp map_m)
 
 pub enters_m : MayEnter 0 two_sites (Happened map_commit ∷ []) map_entry nobody nobody

@@ -5,12 +5,14 @@ pub mod JobStates
 pub mod Learning
 pub mod LegalRuns
 pub mod ListRun
-pub mod ListStatus
 pub mod Lookups
 pub mod Maps
+pub mod MoveRun
 pub mod NearStates
 pub mod Operations
 pub mod Planned
+pub mod Recoveries
+pub mod RunStatuses
 pub mod Served
 pub mod Texts
 pub mod UnknownLocations

@@ -1,6 +1,5 @@
 -- The run of `list m` where no map stands: it is refused, and its line is written.
-use Rattle.std.proofs.Common.{◌≡◌, ◌≤◌, arith, false, inl, refl, sym, ◌∙◌, None, [], ◌∷◌}
-use Rattle.std.proofs.lemmas.List.{append-nil}
+use Rattle.std.proofs.Common.{◌≡◌, ◌≤◌, arith, false, inl, refl, None, [], ◌∷◌}
 use Rattle.std.specs.FinMap as fin
 use Rattle.cell_world.specs.ByteOrder.{byte_cmp}
 use Rattle.cell_world.specs.Images.{Wrote}
@@ -14,7 +13,7 @@ use Rattle.plain_model.specs.declared.replies.Refusal.TheVariants as refused
 use Rattle.plain_model.specs.declared.replies.Reply.TheVariants as reply
 use Rattle.plain_model.specs.ByMoments.{RunsByMoments}
 use Rattle.plain_model.specs.Follows.{Follows}
-use Rattle.plain_model.specs.Headline.{IsLegalHistory, OnlyWhatHappened, EachOnceInOrder, AllAnswered, answered_by}
+use Rattle.plain_model.specs.Headline.{IsLegalHistory, OnlyWhatHappened, EachOnceInOrder}
 use Rattle.plain_model.specs.Lines.{lines_of, refusal_text}
 use Rattle.plain_model.specs.Refusing.{refusal}
 use Rattle.plain_model.specs.Running.{Owing, text_of}
@@ -25,7 +24,7 @@ use Rattle.plain_model.proofs.RunLaws.{begins, owing-entered, owing-wrote_all}
 use Rattle.plain_model.proofs.RunsAtMoments.{runs_by_moments, all_lines_written}
 use Rattle.model_examples.specs.Values.{map_m, site_a, site_b, two_sites}
 use Rattle.model_examples.specs.Runs.{list_trail, list_asked, list_refused, no_map_line}
-use Rattle.model_examples.proofs.Served.{served, in_order}
+use Rattle.model_examples.proofs.Served.{serves}
 
 abbrev pub before_it : PlainState
 before_it = with_connections (meaning two_sites) nobody
@@ -63,7 +62,4 @@ pub only_this : OnlyWhatHappened (EachReply false) list_trail 0 (list_refused �
 only_this = record { written = runs.written; all = λ ran. is_written; last = inl is_written }
 
 pub once : EachOnceInOrder list_asked (list_refused ∷ []) status.Refused
-once = record { in_order = in_order false (list_refused ∷ []) [] (refl, tt); all = λ done. all_served; all_after_fault = λ failed fault. all_served }
-  where
-    all_served : AllAnswered list_asked (list_refused ∷ [])
-    all_served session = sym (append-nil (answered_by session (list_refused ∷ []))) ∙ served (list_refused ∷ []) [] (refl, tt) session
+once = serves (list_refused ∷ []) status.Refused (refl, tt)

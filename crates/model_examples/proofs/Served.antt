@@ -1,12 +1,14 @@
 -- Histories in which each entry has a reply: they serve the script that they are of.
-use Rattle.std.proofs.Common.{◌≡◌, ℕ, Bool, true, false, cond, true≢false, refl, sym, ap, ◌∙◌, Some, None, is_some, List, [], ◌∷◌, ◌++◌, zero, suc, ◌&&◌, slice_get}
+use Rattle.std.proofs.Common.{◌≡◌, ℕ, Bool, true, false, cond, true≢false, refl, sym, ap, ◌∙◌, subst, Some, None, is_some, List, [], ◌∷◌, ◌++◌, zero, suc, ◌&&◌, slice_get}
+use Rattle.std.proofs.lemmas.List.{append-nil}
 use Rattle.std.specs.Prelude.{◌==◌}
 use Rattle.cell_world.specs.Keys.{same}
 use Rattle.plain_model.specs.declared.commands.Asked.{Asked}
 use Rattle.plain_model.specs.declared.commands.Command.{Command}
 use Rattle.plain_model.specs.declared.commands.Command.TheVariants as command
+use Rattle.plain_model.specs.declared.finish.RunStatus.{RunStatus}
 use Rattle.plain_model.specs.declared.history.Entry.{Entry}
-use Rattle.plain_model.specs.Headline.{script_of, answered_by, InOrder}
+use Rattle.plain_model.specs.Headline.{script_of, answered_by, has_stopped, InOrder, AllAnswered, EachOnceInOrder}
 use Rattle.model_examples.specs.Values.{map_n}
 
 -- the commands of the entries
@@ -39,6 +41,17 @@ in_order stopped history later all = record {
   front = λ session. (script_of session later, served history later all session);
   silent = λ i e at silent after split. absurd (none_silent history all i e at silent);
 }
+
+-- a history of all of the script, whatever its status
+pub serves : (history : List Entry) (ending : RunStatus) → AllReplied history → EachOnceInOrder (asked_of history) history ending
+serves history ending all = record {
+  in_order = subst (λ (script : List Asked). InOrder (has_stopped ending) script history) (append-nil (asked_of history)) (in_order (has_stopped ending) history [] all);
+  all = λ done. all_served;
+  all_after_fault = λ failed fault. all_served;
+}
+  where
+    all_served : AllAnswered (asked_of history) history
+    all_served session = sym (append-nil (answered_by session history)) ∙ served history [] all session ∙ ap (script_of session) (append-nil (asked_of history))
 
 -- the first command is `map n`
 abbrev pub begins_with_n : List Command → Bool

@@ -3,12 +3,13 @@ use Rattle.std.specs.Prelude.{ℕ, ◌+◌, Bool, true, List, [], ◌∷◌, Som
 use Rattle.std.specs.FinMap as fin
 use Rattle.std.specs.FinSet as set
 use Rattle.cell_world.specs.Texts.{Text}
-use Rattle.cell_world.specs.Stores.{Store, empty_store, Maps, Mappings, Jobs, AwaySites, Locals, piece_key, local_key}
+use Rattle.cell_world.specs.Stores.{Store, empty_store, put, Maps, Mappings, Jobs, AwaySites, Locals, piece_key, local_key}
 use Rattle.cell_world.specs.Images.{Image, Trail, Global, Shard, Happening, Committed, Wrote, empty_image, with_store}
 use Rattle.cell_world.specs.Plain.{PlainState, Held, Connections, holds_nothing, nobody}
 use Rattle.cell_world.specs.declared.cells.Away.{Away}
 use Rattle.cell_world.specs.declared.cells.Away.TheVariants.{Detached}
 use Rattle.cell_world.specs.declared.cells.Cell.TheVariants as cell
+use Rattle.cell_world.specs.declared.cells.CellKey.TheVariants as at
 use Rattle.cell_world.specs.declared.cells.LocalRow.{LocalRow}
 use Rattle.cell_world.specs.declared.cells.RowName.{RowName}
 use Rattle.cell_world.specs.declared.cells.KeyType.{KeyType}
@@ -26,7 +27,7 @@ use Rattle.cell_world.specs.declared.operations.Phase.{Phase}
 use Rattle.cell_world.specs.declared.operations.Phase.TheVariants.{Idle, Copying, Moved}
 use Rattle.cell_world.specs.declared.spans.High.TheVariants.{At}
 use Rattle.cell_world.specs.declared.changes.Edit.{Edit}
-use Rattle.cell_world.specs.declared.changes.Edit.TheVariants.{Put}
+use Rattle.cell_world.specs.declared.changes.Edit.TheVariants.{Put, Delete}
 use Rattle.plain_model.specs.declared.commands.Command.{Command}
 use Rattle.plain_model.specs.declared.commands.Command.TheVariants as command
 use Rattle.plain_model.specs.declared.commands.HighText.TheVariants as word
@@ -183,6 +184,10 @@ job_piece low high location status = record (mapping_with (small_range low high)
 abbrev pub fresh_state : PlainState
 fresh_state = state_with (job_piece 0 10 site_a Online ∷ []) (job_at 0 Idle ∷ [])
 
+-- so it is while a connection to one of its keys is live or ended
+abbrev pub fresh_connected : Bool → PlainState
+fresh_connected live = record fresh_state { connections = one_connection live }
+
 -- the batch [0, 5) is copied
 abbrev pub copying_state : PlainState
 copying_state = state_with (job_piece 0 5 site_a Offline ∷ job_piece 5 10 site_a Online ∷ []) (job_at 0 (Copying (At (small_key 5))) ∷ [])
@@ -279,6 +284,10 @@ move_op = record { number = 1; map = map_m; hull = small_range 0 5; olds = one_p
 abbrev pub split_op : Op
 split_op = record { number = 1; map = map_m; hull = small_range 0 10; olds = one_piece (job_piece 0 10 site_a Online); news = two_pieces (job_piece 0 3 site_a Online) (job_piece 3 10 site_a Online); extra = extra.None }
 
+-- the whole range of the job is taken offline as one batch
+abbrev pub job_offline_op : Op
+job_offline_op = record { number = 1; map = map_m; hull = small_range 0 10; olds = one_piece (job_piece 0 10 site_a Online); news = one_piece (job_piece 0 10 site_a Offline); extra = extra.JobPut (job_at 0 (Copying (At (small_key 10)))) }
+
 -- the state after that split
 abbrev pub after_split : PlainState
 after_split = exchanging fresh_state (job_piece 0 10 site_a Online ∷ [], job_piece 0 3 site_a Online ∷ job_piece 3 10 site_a Online ∷ [])
@@ -299,6 +308,14 @@ fresh_image = job_image (job_piece 0 10 site_a Online ∷ []) (job_at 0 Idle)
 abbrev pub trail_of : List Happening → Trail
 trail_of happened = record { start = two_sites; happened = happened }
 
+-- the copied batch is moved: its mapping has the other site, the job is in phase Moved, and the log cell goes
+abbrev pub move_commit : Happening
+move_commit = Committed Global (Delete (at.Piece map_m (small_key 0)) ∷ Put (cell.Piece (job_piece 0 5 site_b Offline)) ∷ Put (cell.Job (job_at 0 (Moved (At (small_key 5))))) ∷ Delete (at.Log 1) ∷ []) true
+
+-- what happened to the stores with the copied batch
+abbrev pub copying_trail : List Happening → Trail
+copying_trail happened = record { start = copying_image; happened = happened }
+
 abbrev pub nothing_going : AllGoing
 nothing_going session = None
 
@@ -306,7 +323,11 @@ nothing_going session = None
 abbrev pub map_commit : Happening
 map_commit = Committed Global (Put (cell.Map map_m kind.Range Int) ∷ []) true
 
--- that, and the line of its reply
+-- the two sites after it
+abbrev pub image_m : Image
+image_m = with_store two_sites Global (put empty_store (cell.Map map_m kind.Range Int))
+
+-- the commit, and the line of its reply
 abbrev pub map_trail : Trail
 map_trail = trail_of (map_commit ∷ Wrote (codes "ok\n") ∷ [])
 

@@ -1,6 +1,7 @@
 //! Examples of which entries follow a state, by the reply.
-ghost use Rattle.std.specs.Prelude.{[], ◌∷◌, Some, None, true, false, codes};
-ghost use Rattle.cell_world.specs.Plain.{holds_nothing};
+ghost use Rattle.std.specs.Prelude.{◌≡◌, ◌≤◌, [], ◌∷◌, Some, None, true, false, codes};
+ghost use Rattle.std.specs.FinMap as fin;
+ghost use Rattle.cell_world.specs.Plain.{PlainState, holds_nothing};
 ghost use Rattle.cell_world.specs.declared.cells.Away.TheVariants.{Detached, Suspect};
 ghost use Rattle.cell_world.specs.declared.cells.KeyType.TheVariants as type;
 ghost use Rattle.cell_world.specs.declared.cells.Status.TheVariants.{Online, Offline};
@@ -11,10 +12,9 @@ ghost use Rattle.plain_model.specs.declared.commands.Command.TheVariants as comm
 ghost use Rattle.plain_model.specs.declared.replies.Reply.TheVariants as reply;
 ghost use Rattle.plain_model.specs.declared.replies.Refusal.TheVariants as refused;
 ghost use Rattle.plain_model.specs.Follows.{Follows};
-ghost use Rattle.plain_model.specs.JobSteps.{with_extra};
-ghost use Rattle.plain_model.specs.Steps.{plain_step, exchanging};
+ghost use Rattle.plain_model.specs.Steps.{plain_step, attach, detach};
 ghost use Rattle.plain_model.specs.Worked.{small_key};
-ghost use Rattle.model_examples.specs.Values.{map_m, map_n, away_state, holding, one_row, connected_state, site_a, site_b, make_map, answered, silent, made, empty_state, with_map, job_at, job_piece, fresh_state, copying_state, after_move, moved_state, between_state, merging_state, all_moved_state, finished_state};
+ghost use Rattle.model_examples.specs.Values.{map_m, map_n, away_state, holding, one_row, connected_state, site_a, site_b, make_map, answered, silent, made, empty_state, with_map, job_at, job_piece, fresh_state, copying_state, after_move, after_split, fresh_connected, moved_state, between_state, merging_state, all_moved_state, finished_state};
 
 /// An answer or a refusal is the plain step's, and so is the state.
 pub fn plain_answers()
@@ -28,6 +28,15 @@ pub fn plain_answers()
     ensures never_refused_with_a_change { Follows [] (with_map empty_state map_m) (answered 1 (make_map map_m) (reply.Refused refused.MapExists)) empty_state (Some (reply.Refused refused.MapExists)) → ⊥ }
 {}
 
+/// An accepted `detach` or `attach` changes the state of its site. (What the site holds then is said of the trail.)
+pub fn recoveries()
+    ensures detached { Follows [] empty_state (answered 1 (command.Detach site_a) reply.Ok) (detach empty_state site_a one_row) (Some reply.Ok) }
+    ensures attached { Follows [] (away_state Detached) (answered 1 (command.Attach site_a) reply.Ok) (attach (away_state Detached) site_a one_row) (Some reply.Ok) }
+    ensures never_still_attached { Follows [] empty_state (answered 1 (command.Detach site_a) reply.Ok) empty_state (Some reply.Ok) → ⊥ }
+    ensures never_still_detached { Follows [] (away_state Detached) (answered 1 (command.Attach site_a) reply.Ok) (away_state Detached) (Some reply.Ok) → ⊥ }
+    ensures never_what_is_attached { Follows [] empty_state (answered 1 (command.Attach site_a) reply.Ok) (attach empty_state site_a one_row) (Some reply.Ok) → ⊥ }
+{}
+
 /// `job-running` needs that the job stands, and changes nothing.
 pub fn job_running()
     ensures at_a_step { Follows [] fresh_state (answered 2 (command.Step 1) (reply.Refused refused.JobRunning)) fresh_state (Some (reply.Refused refused.JobRunning)) }
@@ -39,6 +48,7 @@ pub fn job_running()
 
 /// `full` where no operation number is left comes to a command that would take one, and to the finish of a job it doesn't.
 pub fn full_of_numbers()
+    ensures sixty_four_maps { (s : PlainState) → fin.get s.maps map_n ≡ None → 64 ≤ fin.len s.maps → Follows [] s (answered 1 (make_map map_n) (reply.Refused refused.Full)) s (Some (reply.Refused refused.Full)) }
     ensures at_a_step { Follows [] fresh_state (answered 1 (command.Step 1) (reply.Refused refused.Full)) fresh_state (Some (reply.Refused refused.Full)) }
     ensures never_at_the_finish { Follows [] all_moved_state (answered 1 (command.Step 1) (reply.Refused refused.Full)) all_moved_state (Some (reply.Refused refused.Full)) → ⊥ }
     ensures never_of_a_command_without_a_number { Follows [] empty_state (answered 1 (make_map map_m) (reply.Refused refused.Full)) empty_state (Some (reply.Refused refused.Full)) → ⊥ }
@@ -49,6 +59,7 @@ pub fn full_of_numbers()
 /// An entry without a reply is the next step of a job.
 pub fn steps_of_jobs()
     ensures move_there { Follows [] copying_state (silent 1 (command.Step 1)) after_move None }
+    ensures split_at_another_end { Follows [] fresh_state (silent 1 (command.Step 1)) after_split None }
     ensures never_without_a_change { Follows [] copying_state (silent 1 (command.Step 1)) copying_state None → ⊥ }
     ensures never_two_steps_at_once { Follows [] copying_state (silent 1 (command.Step 1)) between_state None → ⊥ }
     ensures never_of_a_job_that_is_gone { Follows [] finished_state (silent 1 (command.Step 1)) finished_state None → ⊥ }
@@ -123,6 +134,7 @@ pub fn faults_of_offline()
 pub fn faults_in_a_job()
     ensures not_done { Follows [] copying_state (answered 1 (command.Step 1) reply.Fault) copying_state (Some reply.Fault) }
     ensures done { Follows [] copying_state (answered 1 (command.Step 1) reply.Fault) after_move (Some reply.Fault) }
+    ensures offline_ends_connections { Follows [] (fresh_connected true) (answered 1 (command.Step 1) reply.Fault) (fresh_connected false) (Some reply.Fault) }
     ensures never_two_steps { Follows [] copying_state (answered 1 (command.Step 1) reply.Fault) between_state (Some reply.Fault) → ⊥ }
     ensures never_another_change { Follows [] copying_state (answered 1 (command.Step 1) reply.Fault) (with_map copying_state map_n) (Some reply.Fault) → ⊥ }
 {}

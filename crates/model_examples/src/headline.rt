@@ -17,7 +17,7 @@ ghost use Rattle.plain_model.specs.declared.replies.Reply.TheVariants as reply;
 ghost use Rattle.plain_model.specs.Headline.{SoundAtEachMoment, IsLeftGoing, IsLegalHistory, OnlyWhatHappened, InOrder, EachOnceInOrder, EndsAnswered, EndsWithMemory, named_locations, IsFirstUnknown, StatusCause, ComesByInput, ComesByOpening, KeepsToStatus, StatusHasCause, GoesOnFrom, Headline, FollowsTo, IsLegalByStates, HeadlineAlone};
 ghost use Rattle.plain_model.specs.Written.{EachReply};
 ghost use Rattle.plain_model.specs.Worked.{small_range, mapping_over};
-ghost use Rattle.model_examples.specs.Values.{move_op, job_at, row_m, map_commit, map_trail, answered, map_m, map_n, site_a, site_b, make_map, two_sites, with_global, empty_state, with_map, at_moment, map_entry, second_entry, trail_of};
+ghost use Rattle.model_examples.specs.Values.{move_op, job_at, row_m, map_commit, image_m, map_trail, answered, map_m, map_n, site_a, site_b, make_map, two_sites, with_global, empty_state, with_map, at_moment, map_entry, second_entry, trail_of};
 ghost use Rattle.model_examples.specs.Runs.{nothing_done, list_trail, list_asked, list_refused, silent_step, ok_line, step_done, map_answered, asks, two_asked, going_at, world_of, with_faults, with_sink_fault, nothing_wrong, wrong_words, wrong_line, too_many_bytes, source_failed, without_number, unknown_store, site_c, site_d};
 
 // ---- sound, legal, and written
@@ -234,9 +234,11 @@ pub fn goes_on_from()
     ensures never_from_elsewhere { GoesOnFrom (trail_of []) (record list_trail { start = empty_image [] }) → ⊥ }
 {}
 
-/// The run of one command, which is refused.
+/// The run of one command: a `list` that is refused, or a `map` that is done.
 pub fn headline()
     ensures one_refused { Headline (EachReply false) nothing_wrong list_asked (trail_of []) (world_of (TellsTrail (trail_of []))) (world_of (TellsTrail list_trail)) (list_refused ∷ []) status.Refused }
+    ensures one_map { Headline (EachReply false) nothing_wrong (asks 1 (make_map map_m) ∷ []) (trail_of []) (world_of (TellsTrail (trail_of []))) (world_of (TellsTrail map_trail)) (map_entry ∷ []) status.Done }
+    ensures never_without_its_line { Headline (EachReply false) nothing_wrong (asks 1 (make_map map_m) ∷ []) (trail_of []) (world_of (TellsTrail (trail_of []))) (world_of (TellsTrail (trail_of (map_commit ∷ [])))) (map_entry ∷ []) status.Done → ⊥ }
     ensures never_untold { Headline (EachReply false) nothing_wrong list_asked (trail_of []) (world_of (TellsTrail (trail_of []))) (world_of TellsNothing) (list_refused ∷ []) status.Refused → ⊥ }
     ensures never_from_another_trail { Headline (EachReply false) nothing_wrong list_asked (trail_of (nothing_done ∷ [])) (world_of (TellsTrail (trail_of (nothing_done ∷ [])))) (world_of (TellsTrail list_trail)) (list_refused ∷ []) status.Refused → ⊥ }
     ensures never_unsound { Headline (EachReply false) nothing_wrong [] (trail_of (Reopened Global without_number ∷ [])) (world_of (TellsTrail (trail_of (Reopened Global without_number ∷ [])))) (world_of (TellsTrail (trail_of (Reopened Global without_number ∷ [])))) [] status.Done → ⊥ }
@@ -264,6 +266,8 @@ pub fn legal_by_states()
 /// The parts that speak of no trail.
 pub fn headline_alone()
     ensures one_refused { HeadlineAlone nothing_wrong list_asked two_sites (world_of (TellsContents two_sites)) (world_of (TellsContents two_sites)) (list_refused ∷ []) status.Refused }
+    ensures one_map { HeadlineAlone nothing_wrong (asks 1 (make_map map_m) ∷ []) two_sites (world_of (TellsContents two_sites)) (world_of (TellsContents image_m)) (map_entry ∷ []) status.Done }
+    ensures never_without_the_map { HeadlineAlone nothing_wrong (asks 1 (make_map map_m) ∷ []) two_sites (world_of (TellsContents two_sites)) (world_of (TellsContents two_sites)) (map_entry ∷ []) status.Done → ⊥ }
     ensures never_unsound { HeadlineAlone nothing_wrong [] (with_global without_number) (world_of (TellsContents (with_global without_number))) (world_of (TellsContents (with_global without_number))) [] status.Done → ⊥ }
     ensures never_untold { HeadlineAlone nothing_wrong list_asked two_sites (world_of (TellsContents two_sites)) (world_of TellsNothing) (list_refused ∷ []) status.Refused → ⊥ }
     ensures never_of_another_script { HeadlineAlone nothing_wrong two_asked two_sites (world_of (TellsContents two_sites)) (world_of (TellsContents two_sites)) (list_refused ∷ []) status.Refused → ⊥ }

@@ -16,7 +16,8 @@ ghost use Rattle.plain_model.specs.ByMoments.{LegalByMoments};
 ghost use Rattle.plain_model.specs.Legal.{KeepsCounter, KeepsPromises, MayHappen, IsPlanned, IsPlannedIn, Going, AllGoing};
 ghost use Rattle.plain_model.specs.Timelines.{Happened, Entered};
 ghost use Rattle.plain_model.specs.Worked.{small_key, small_range, local_row_over};
-ghost use Rattle.model_examples.specs.Values.{map_m, make_map, site_a, answered, naming, at_moment, two_sites, with_global, detached_store, local_cells, maps_m, map_commit, map_trail, map_entry, closing, trail_of, nothing_going, add_op, tried, add_0_10, job_at, copying_state, after_move, fresh_state, after_split, finished_state, all_moved_state, move_op, split_op, copying_image, fresh_image};
+ghost use Rattle.model_examples.specs.Values.{map_m, make_map, site_a, answered, silent, naming, at_moment, two_sites, with_global, detached_store, local_cells, maps_m, map_commit, map_trail, map_entry, closing, trail_of, nothing_going, add_op, tried, add_0_10, job_at, copying_state, after_move, fresh_state, after_split, finished_state, all_moved_state, move_op, split_op, copying_image, fresh_image, move_commit, copying_trail};
+ghost use Rattle.model_examples.specs.Runs.{silent_step};
 
 /// Legal histories: an empty one, a `map` with its commit and its line, and two refused commands.
 pub fn legal_histories()
@@ -124,11 +125,18 @@ pub fn planned_operations()
 /// A step of a job that changes mappings or jobs is the finish, or was made by an operation that was planned when it was logged.
 pub fn planned_steps()
     ensures of_no_job { IsPlanned two_sites [] copying_state after_move None }
+    ensures the_finish { IsPlanned two_sites [] all_moved_state finished_state (Some (job_at 10 Idle)) }
     ensures no_change { IsPlanned two_sites [] copying_state copying_state (Some (job_at 0 (Copying (At (small_key 5))))) }
     ensures made { IsPlanned copying_image (Happened (Committed Global [] true) ∷ Happened (tried move_op true) ∷ []) copying_state after_move (Some (job_at 0 (Copying (At (small_key 5))))) }
     ensures never_made_by_nothing { IsPlanned copying_image [] copying_state after_move (Some (job_at 0 (Copying (At (small_key 5))))) → ⊥ }
     ensures never_not_logged { IsPlanned copying_image (Happened (Committed Global [] true) ∷ Happened (tried move_op false) ∷ []) copying_state after_move (Some (job_at 0 (Copying (At (small_key 5))))) → ⊥ }
     ensures never_to_another_end { IsPlanned fresh_image (Happened (Committed Global [] true) ∷ Happened (tried split_op true) ∷ []) fresh_state after_split (Some (job_at 0 Idle)) → ⊥ }
+{}
+
+/// In a whole run: the move of the copied batch is legal where its log cell was put in the run, and not where it wasn't.
+pub fn planned_in_a_run()
+    ensures the_move { LegalByMoments (copying_trail (tried move_op true ∷ move_commit ∷ [])) 0 nothing_going (silent_step ∷ []) }
+    ensures never_without_its_log { LegalByMoments (copying_trail (move_commit ∷ [])) 0 nothing_going (silent 1 (command.Step 1) ∷ []) → ⊥ }
 {}
 
 // ---- promises

@@ -8,8 +8,9 @@ ghost use Rattle.plain_model.specs.declared.commands.Command.TheVariants as comm
 ghost use Rattle.plain_model.specs.declared.replies.Refusal.TheVariants as refused;
 ghost use Rattle.plain_model.specs.declared.replies.Reply.TheVariants as reply;
 ghost use Rattle.plain_model.specs.OnTrail.{OnTrail};
+ghost use Rattle.plain_model.specs.Steps.{attach};
 ghost use Rattle.plain_model.specs.Timelines.{Happened, Entered};
-ghost use Rattle.model_examples.specs.Values.{map_m, make_map, site_a, answered, naming, empty_state, away_state, holding, one_row, one_connection, connected_state, state_with, copying_state, two_sites, with_global, with_cells, row_cells, add_op, offline_op, tried, add_0_10, offline_5};
+ghost use Rattle.model_examples.specs.Values.{map_m, make_map, site_a, answered, naming, empty_state, away_state, holding, one_row, one_connection, connected_state, state_with, copying_state, two_sites, with_global, with_cells, row_cells, add_op, offline_op, tried, fresh_connected, job_offline_op, add_0_10, offline_5};
 
 /// An accepted `detach` leaves at its site what stood there just before its commit.
 pub fn held_after_detach()
@@ -53,11 +54,15 @@ pub fn offline_was_tried()
 /// In a job connections end without the step only where it is the offline, or where the offline was tried.
 pub fn causes_in_a_job()
     ensures not_done { OnTrail two_sites [] copying_state (answered 1 (command.Step 1) reply.Fault) copying_state (Some reply.Fault) }
+    ensures ended_at_the_offline { OnTrail two_sites [] (fresh_connected true) (answered 1 (command.Step 1) reply.Fault) (fresh_connected false) (Some reply.Fault) }
+    ensures ended_where_it_was_tried { OnTrail two_sites (Happened (tried job_offline_op false) ∷ []) (fresh_connected true) (naming (answered 1 (command.Step 1) reply.Fault) 1) (fresh_connected false) (Some reply.Fault) }
+    ensures never_left_open_where_it_was_tried { OnTrail two_sites (Happened (tried job_offline_op false) ∷ []) (fresh_connected true) (naming (answered 1 (command.Step 1) reply.Fault) 1) (fresh_connected true) (Some reply.Fault) → ⊥ }
     ensures never_ended_at_the_move { OnTrail two_sites [] (record copying_state { connections = one_connection true }) (answered 1 (command.Step 1) reply.Fault) (record copying_state { connections = one_connection false }) (Some reply.Fault) → ⊥ }
 {}
 
 /// A faulted `attach` left the old state, or came after a reopening.
 pub fn attach_was_tried()
     ensures not_done { OnTrail two_sites [] (away_state Detached) (answered 1 (command.Attach site_a) reply.Fault) (away_state Detached) (Some reply.Fault) }
+    ensures done_after_a_reopening { OnTrail two_sites (Happened (Reopened (Shard site_a) row_cells) ∷ []) (away_state Detached) (answered 1 (command.Attach site_a) reply.Fault) (attach (away_state Detached) site_a one_row) (Some reply.Fault) }
     ensures never_done_without_a_reopening { OnTrail two_sites [] (away_state Detached) (answered 1 (command.Attach site_a) reply.Fault) (holding (away_state Suspect) one_row) (Some reply.Fault) → ⊥ }
 {}

@@ -9,10 +9,12 @@ use Rattle.cell_world.specs.declared.operations.Phase.TheVariants.{Idle, Copying
 use Rattle.cell_world.specs.declared.spans.High.TheVariants.{At}
 use Rattle.plain_model.specs.Refusing.{if_there}
 use Rattle.plain_model.specs.Worked.{small_key}
-use Rattle.model_examples.specs.Values.{map_n, entries_m, job_at, with_map, copying_state, after_move, between_state}
+use Rattle.model_examples.specs.Values.{site_a, job_piece, one_connection, map_n, entries_m, job_at, with_map, copying_state, after_move, between_state}
 use Rattle.model_examples.proofs.Lookups.{get_of, differ}
 use Rattle.model_examples.proofs.Maps.{has_map, has_it}
-use Rattle.model_examples.proofs.JobStates.{job_stands, moves, only_moves}
+use Rattle.cell_world.specs.declared.cells.Status.TheVariants.{Online}
+use Rattle.model_examples.proofs.Faults.{ends_in_the_job}
+use Rattle.model_examples.proofs.JobStates.{takes_offline, job_stands, moves, only_moves}
 use Rattle.model_examples.proofs.follows.faults_in_a_job.Goals as goal
 
 -- the job's cursor is at 5
@@ -50,3 +52,6 @@ returns-clause-never_another_change c = rw (job_stands 0 (Copying (At (small_key
     (⊎_elim
     (λ step. no_n _ (sym (only_moves (with_map copying_state map_n) _ (job_stands 0 (Copying (At (small_key 5)))) step)) refl)
     (λ f. no_n _ f.2 refl)))
+
+pub returns-clause-offline_ends_connections : goal.returns-clause-offline_ends_connections
+returns-clause-offline_ends_connections c = rw (job_stands 0 Idle) (inr (inr (job_piece 0 10 site_a Online, takes_offline (one_connection true), sym ends_in_the_job)))

@@ -1,7 +1,9 @@
-use Rattle.std.proofs.Common.{◌≡◌, true, false, refl, sym, ap, ◌∙◌, Some, None, ◌∷◌, [], inr, ⊎_elim}
+use Rattle.std.proofs.Common.{◌≡◌, ◌≤◌, true, false, refl, sym, ap, ◌∙◌, Some, None, ◌∷◌, [], inr, ⊎_elim, inl}
 use Rattle.std.specs.Ordering.{nat_cmp}
 use Rattle.std.specs.FinMap as fin
+use Rattle.std.proofs.lemmas.Bool.{le-leb}
 use Rattle.cell_world.specs.Orders.{pair_cmp}
+use Rattle.cell_world.specs.Plain.{PlainState, holds_nothing}
 use Rattle.cell_world.specs.declared.cells.Status.TheVariants.{Online}
 use Rattle.cell_world.specs.declared.operations.JobRow.{JobRow}
 use Rattle.cell_world.specs.declared.operations.Phase.TheVariants.{Idle}
@@ -10,7 +12,7 @@ use Rattle.plain_model.specs.declared.replies.Reply.TheVariants as reply
 use Rattle.plain_model.specs.declared.replies.Refusal.TheVariants as refused
 use Rattle.plain_model.specs.Refusing.{refusal}
 use Rattle.plain_model.specs.Steps.{refused_or_done}
-use Rattle.model_examples.specs.Values.{site_a, site_b, job_at, job_piece, keyed_pieces, empty_state}
+use Rattle.model_examples.specs.Values.{map_n, make_map, site_a, site_b, job_at, job_piece, keyed_pieces, empty_state}
 use Rattle.model_examples.proofs.Lookups.{entries_of}
 use Rattle.model_examples.proofs.Maps.{makes_m}
 use Rattle.model_examples.proofs.JobStates.{job_stands, m_stands, n_is_more, step_accepted, step_answers}
@@ -47,3 +49,11 @@ pub returns-clause-never_with_a_change : goal.returns-clause-never_with_a_change
 returns-clause-never_with_a_change c = ⊎_elim
     (λ p. let e : reply.Done 1 ≡ reply.Refused refused.Full = step_answers p.held (job_piece 0 10 site_a Online ∷ []) 0 Idle _ _ p.step in cc)
     (λ n. n_is_more (job_piece 0 10 site_a Online ∷ []) (job_at 0 Idle ∷ []) n.same)
+
+-- there are 64 maps
+full_refusal : (s : PlainState) → fin.get s.maps map_n ≡ None → 64 ≤ fin.len s.maps → refusal s 1 (make_map map_n) ≡ Some refused.Full
+unfolding refusal
+full_refusal s none many = rw (none, le-leb 64 (fin.len s.maps) many) refl
+
+pub returns-clause-sixty_four_maps : goal.returns-clause-sixty_four_maps
+returns-clause-sixty_four_maps c s none many = inl (record { held = holds_nothing; step = ap (refused_or_done holds_nothing s 1 (make_map map_n)) (full_refusal s none many) })

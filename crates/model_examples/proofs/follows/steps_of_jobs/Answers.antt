@@ -7,7 +7,7 @@ use Rattle.plain_model.specs.Refusing.{if_there}
 use Rattle.plain_model.specs.Worked.{small_key}
 use Rattle.model_examples.specs.Values.{job_at}
 use Rattle.model_examples.proofs.Lookups.{differ}
-use Rattle.model_examples.proofs.JobStates.{no_job, job_stands, moves, only_moves, move_shows, is_batch_moved}
+use Rattle.model_examples.proofs.JobStates.{splits_at_3, no_job, job_stands, moves, only_moves, move_shows, is_batch_moved}
 use Rattle.model_examples.proofs.follows.steps_of_jobs.Goals as goal
 
 pub returns-clause-move_there : goal.returns-clause-move_there
@@ -21,3 +21,6 @@ returns-clause-never_two_steps_at_once c f = differ is_batch_moved _ _ (only_mov
 
 pub returns-clause-never_of_a_job_that_is_gone : goal.returns-clause-never_of_a_job_that_is_gone
 returns-clause-never_of_a_job_that_is_gone c f = let e : None ≡ Some f.job = sym (no_job 1) ∙ f.asked in cc
+
+pub returns-clause-split_at_another_end : goal.returns-clause-split_at_another_end
+returns-clause-split_at_another_end c = record { job = job_at 0 Idle; asked = job_stands 0 Idle; step = splits_at_3 }

@@ -1,16 +1,12 @@
-use Rattle.std.proofs.Common.{◌≡◌, ◌<◌, arith, true, false, true≢false, refl, sym, ◌∙◌, [], ◌∷◌}
-use Rattle.std.proofs.lemmas.List.{append-nil}
-use Rattle.plain_model.specs.Headline.{AllAnswered, answered_by}
+use Rattle.std.proofs.Common.{◌≡◌, ◌<◌, arith, true, false, true≢false, refl, sym, [], ◌∷◌}
+use Rattle.plain_model.specs.declared.finish.RunStatus.TheVariants as status
 use Rattle.model_examples.specs.Values.{map_m, map_n, make_map, map_entry, second_entry}
 use Rattle.model_examples.specs.Runs.{asks, two_asked}
-use Rattle.model_examples.proofs.Served.{served, in_order}
+use Rattle.model_examples.proofs.Served.{serves, in_order}
 use Rattle.model_examples.proofs.headline.each_once_in_order.Goals as goal
 
-all_served : AllAnswered two_asked (map_entry ∷ second_entry ∷ [])
-all_served session = sym (append-nil (answered_by session (map_entry ∷ second_entry ∷ []))) ∙ served (map_entry ∷ second_entry ∷ []) [] (refl, (refl, tt)) session
-
 pub returns-clause-done : goal.returns-clause-done
-returns-clause-done c = record { in_order = in_order false (map_entry ∷ second_entry ∷ []) [] (refl, (refl, tt)); all = λ done. all_served; all_after_fault = λ failed fault. all_served }
+returns-clause-done c = serves (map_entry ∷ second_entry ∷ []) status.Done (refl, (refl, tt))
 
 pub returns-clause-stopped_at_a_write : goal.returns-clause-stopped_at_a_write
 returns-clause-stopped_at_a_write c = record { in_order = in_order true (map_entry ∷ []) (asks 1 (make_map map_n) ∷ []) (refl, tt); all = λ done. absurd (true≢false (sym done)); all_after_fault = λ failed. absurd (true≢false (sym failed)) }

@@ -1,15 +1,20 @@
-use Rattle.std.proofs.Common.{true, ℕ, ◌≡◌, arith, false, refl, sym, subst, [], ◌∷◌, ◌≤◌}
+use Rattle.std.proofs.Common.{true, ℕ, ◌≡◌, arith, false, refl, sym, subst, [], ◌∷◌, ◌≤◌, inl}
 use Rattle.cell_world.specs.Images.{Trail, Global, Wrote, Reopened}
 use Rattle.cell_world.specs.Outside.{TellsNothing, TellsTrail}
 use Rattle.plain_model.specs.declared.commands.Command.TheVariants as command
+use Rattle.plain_model.specs.declared.finish.RunStatus.TheVariants as status
 use Rattle.plain_model.specs.Lines.{lines_of, refusal_text}
 use Rattle.plain_model.specs.Written.{EachReply, AllWritten}
 use Rattle.plain_model.specs.Headline.{SoundAtEachMoment, IsLegalHistory, GoesOnFrom}
-use Rattle.model_examples.specs.Values.{map_m, map_n, site_a, site_b, make_map, trail_of, map_entry}
-use Rattle.model_examples.specs.Runs.{list_trail, list_refused, no_map_line, nothing_done, without_number, asks}
+use Rattle.plain_model.proofs.LegalAtMoments.{legal_by_moments}
+use Rattle.plain_model.proofs.RunsAtMoments.{sound_by_moments}
+use Rattle.model_examples.specs.Values.{map_m, map_n, site_a, site_b, make_map, trail_of, nothing_going, map_commit, map_trail, map_entry}
+use Rattle.model_examples.specs.Runs.{list_trail, list_refused, no_map_line, ok_line, nothing_done, without_number, asks}
+use Rattle.model_examples.proofs.LegalRuns.{one_map, map_sound, map_written}
+use Rattle.model_examples.proofs.Served.{serves}
 use Rattle.model_examples.proofs.ListRun.{runs, is_legal, only_this, once}
 use Rattle.model_examples.proofs.UnknownLocations.{none_unknown}
-use Rattle.model_examples.proofs.ListStatus.{caused}
+use Rattle.model_examples.proofs.RunStatuses.{list_caused, map_caused}
 use Rattle.model_examples.proofs.headline.headline.Goals as goal
 
 -- what is told is the trail
@@ -18,7 +23,7 @@ told_is told trail e = cc
 
 pub returns-clause-one_refused : goal.returns-clause-one_refused
 unfolding lines_of refusal_text
-returns-clause-one_refused c = record { trail = list_trail; told = refl; goes_on = record { start = refl; front = refl }; sound = record { sound = runs.sound }; legal = is_legal; written = only_this; served = once; status = caused (TellsTrail (trail_of [])) (TellsTrail list_trail) (none_unknown (site_a ∷ site_b ∷ [])) }
+returns-clause-one_refused c = record { trail = list_trail; told = refl; goes_on = record { start = refl; front = refl }; sound = record { sound = runs.sound }; legal = is_legal; written = only_this; served = once; status = list_caused (TellsTrail (trail_of [])) (TellsTrail list_trail) (none_unknown (site_a ∷ site_b ∷ [])) }
 
 pub returns-clause-never_untold : goal.returns-clause-never_untold
 unfolding lines_of refusal_text
@@ -50,3 +55,25 @@ pub returns-clause-never_past_the_end : goal.returns-clause-never_past_the_end
 returns-clause-never_past_the_end c h =
     let legal : IsLegalHistory true (trail_of []) 0 (asks 1 (make_map map_m) ∷ []) (map_entry ∷ []) = subst (λ (trail : Trail). IsLegalHistory true trail 0 (asks 1 (make_map map_m) ∷ []) (map_entry ∷ [])) (sym (told_is (trail_of []) h.trail h.told)) h.legal in
     let e : 1 ≤ 0 = legal.legal.ends in omega arith
+
+pub returns-clause-one_map : goal.returns-clause-one_map
+unfolding lines_of
+returns-clause-one_map c = record {
+  trail = map_trail;
+  told = refl;
+  goes_on = record { start = refl; front = refl };
+  sound = record { sound = sound_by_moments map_trail 0 one_map.timeline (omega arith) refl map_sound };
+  legal = record {
+    going = nothing_going;
+    left = λ session. record { none = λ ran. refl; next = tt };
+    legal = legal_by_moments map_trail 0 nothing_going (map_entry ∷ []) (omega arith) one_map;
+  };
+  written = record { written = map_written; all = λ ran. refl; last = inl refl };
+  served = serves (map_entry ∷ []) status.Done (refl, tt);
+  status = map_caused (TellsTrail (trail_of [])) (TellsTrail map_trail) (none_unknown (site_a ∷ site_b ∷ []));
+}
+
+pub returns-clause-never_without_its_line : goal.returns-clause-never_without_its_line
+unfolding lines_of
+returns-clause-never_without_its_line c h =
+    let e : [] ≡ ok_line = subst (λ (trail : Trail). AllWritten (EachReply false) trail 0 (map_entry ∷ [])) (sym (told_is (trail_of (map_commit ∷ [])) h.trail h.told)) (h.written.all refl) in cc

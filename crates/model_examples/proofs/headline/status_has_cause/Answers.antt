@@ -4,11 +4,11 @@ use Rattle.plain_model.specs.declared.finish.RunStatus.TheVariants as status
 use Rattle.model_examples.specs.Values.{site_a, site_b, two_sites}
 use Rattle.model_examples.specs.Runs.{site_c}
 use Rattle.model_examples.proofs.UnknownLocations.{none_unknown, c_is_first}
-use Rattle.model_examples.proofs.ListStatus.{caused}
+use Rattle.model_examples.proofs.RunStatuses.{list_caused}
 use Rattle.model_examples.proofs.headline.status_has_cause.Goals as goal
 
 pub returns-clause-refused : goal.returns-clause-refused
-returns-clause-refused c = caused (TellsContents two_sites) (TellsContents two_sites) (none_unknown (site_a ∷ site_b ∷ []))
+returns-clause-refused c = list_caused (TellsContents two_sites) (TellsContents two_sites) (none_unknown (site_a ∷ site_b ∷ []))
 
 pub returns-clause-never_without_its_cause : goal.returns-clause-never_without_its_cause
 returns-clause-never_without_its_cause c h = let e : ◌≡◌ {A = ℕ} 1 0 = h.cause.0 in omega arith

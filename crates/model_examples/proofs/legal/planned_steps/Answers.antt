@@ -1,53 +1,44 @@
-use Rattle.std.proofs.Common.{◌≡◌, Bool, refl, sym, ap, ◌∙◌, Some, is_some, ◌∷◌, [], inl, inr, ⊎_elim}
+use Rattle.std.proofs.Common.{◌≡◌, refl, sym, ap, ◌∙◌, Some, is_some, ◌∷◌, [], inl, inr, ⊎_elim}
 use Rattle.std.proofs.lemmas.Cmp.{nat_cmp_total}
 use Rattle.std.specs.FinMap as fin
 use Rattle.cell_world.specs.Jobs.{Replace, Finish, job_step}
 use Rattle.cell_world.specs.Meaning.{meaning}
 use Rattle.cell_world.specs.Orders.{pair_cmp}
-use Rattle.cell_world.specs.Plain.{PlainState}
 use Rattle.cell_world.specs.Spelled.{listed}
 use Rattle.cell_world.specs.Stores.{Mappings}
 use Rattle.cell_world.specs.declared.cells.Status.TheVariants.{Online, Offline}
 use Rattle.cell_world.specs.declared.operations.JobRow.{JobRow}
 use Rattle.cell_world.specs.declared.operations.Op.{Op}
 use Rattle.cell_world.specs.declared.operations.Extra.TheVariants as extra
-use Rattle.cell_world.specs.declared.operations.Phase.TheVariants.{Idle, Copying, Moved}
+use Rattle.cell_world.specs.declared.operations.Phase.TheVariants.{Idle, Copying}
 use Rattle.cell_world.specs.declared.spans.High.TheVariants.{At}
 use Rattle.cell_world.proofs.OrderLaws.{pairs_total}
 use Rattle.cell_world.proofs.StoreLaws.{get-insert_same, get-remove_same}
-use Rattle.plain_model.specs.JobSteps.{stepped, is_moved}
+use Rattle.plain_model.specs.JobSteps.{stepped}
 use Rattle.plain_model.specs.Legal.{IsPlannedIn}
 use Rattle.plain_model.specs.Refusing.{if_there}
 use Rattle.plain_model.specs.Worked.{small_key}
-use Rattle.model_examples.specs.Values.{map_m, site_a, keyed_pieces, job_at, job_piece, copying_state, after_move, fresh_state, after_split, fresh_image, move_op, split_op}
+use Rattle.model_examples.specs.Values.{map_m, site_a, keyed_pieces, job_at, job_piece, fresh_state, after_split, fresh_image, move_op, split_op}
 use Rattle.model_examples.proofs.Lookups.{get_of, differ}
-use Rattle.model_examples.proofs.JobStates.{job_stands, is_job, move_shows}
+use Rattle.model_examples.proofs.JobStates.{job_stands, is_job, finishes}
 use Rattle.model_examples.proofs.Operations.{in_log}
-use Rattle.model_examples.proofs.Planned.{fresh_step, plans_the_move}
+use Rattle.model_examples.proofs.Planned.{has_job, fresh_step, plans_the_move, move_changes_jobs, move_is_no_finish}
 use Rattle.model_examples.proofs.legal.planned_steps.Goals as goal
 
 abbrev copying : JobRow
 copying = job_at 0 (Copying (At (small_key 5)))
 
--- the job stands
-abbrev has_job : PlainState → Bool
-has_job s = is_some (fin.get s.jobs 1)
+pub returns-clause-the_finish : goal.returns-clause-the_finish
+returns-clause-the_finish c = inr (inl (ap Some finishes))
 
 pub returns-clause-made : goal.returns-clause-made
 returns-clause-made c = inr (inr (move_op, record { logged = in_log move_op; planned = inr (inl (refl, plans_the_move)); step = refl }))
 
--- it changes the job, and isn't the finish
-jobs_differ : after_move.jobs ≡ copying_state.jobs → ⊥
-jobs_differ e = differ (λ jobs. if_there (λ (job : JobRow). is_moved job.phase) (fin.get jobs 1)) _ _ e move_shows (ap (if_there (λ (job : JobRow). is_moved job.phase)) (job_stands 0 (Copying (At (small_key 5)))))
-
-no_finish : stepped copying_state copying Finish ≡ Some after_move → ⊥
-no_finish e = differ (if_there has_job) _ _ (sym e) (ap is_some (get-insert_same nat_cmp_total copying_state.jobs 1 (job_at 0 (Moved (At (small_key 5)))))) (ap is_some (get-remove_same nat_cmp_total copying_state.jobs 1))
-
 pub returns-clause-never_made_by_nothing : goal.returns-clause-never_made_by_nothing
-returns-clause-never_made_by_nothing c = ⊎_elim (λ same. jobs_differ same.1) (⊎_elim no_finish (λ made. made.1.planned))
+returns-clause-never_made_by_nothing c = ⊎_elim (λ same. move_changes_jobs same.1) (⊎_elim (move_is_no_finish _ _ refl) (λ made. made.1.planned))
 
 pub returns-clause-never_not_logged : goal.returns-clause-never_not_logged
-returns-clause-never_not_logged c = ⊎_elim (λ same. jobs_differ same.1) (⊎_elim no_finish (λ made. ⊎_elim (λ p. let e : [] ≡ made.0 ∷ [] = p.0 in cc) (λ none. none) made.1.planned))
+returns-clause-never_not_logged c = ⊎_elim (λ same. move_changes_jobs same.1) (⊎_elim (move_is_no_finish _ _ refl) (λ made. ⊎_elim (λ p. let e : [] ≡ made.0 ∷ [] = p.0 in cc) (λ none. none) made.1.planned))
 
 -- ---- a split at another key than the batch end
 

@@ -2,8 +2,6 @@ use Rattle.std.proofs.Common.{◌≡◌, ◌≤◌, arith, refl, subst, false, [
 use Rattle.std.specs.Fmt.{digits}
 use Rattle.plain_model.specs.Lines.{lines_of}
 use Rattle.plain_model.specs.Written.{EachReply, WrittenAt}
-use Rattle.plain_model.specs.Written.{EachReply, WrittenAt}
-use Rattle.plain_model.specs.Written.{EachReply, WrittenAt}
 use Rattle.model_examples.specs.Values.{trail_of}
 use Rattle.model_examples.proofs.written.written_by_moments.Goals as goal
 
