@@ -6,6 +6,7 @@ pub mod Images
 pub mod Jobs
 pub mod KeyForms
 pub mod KeyOrder
+pub mod KeyPrinting
 pub mod Keys
 pub mod Lawful
 pub mod Lists

@@ -6,7 +6,6 @@ pub mod Follows
 pub mod GoingOn
 pub mod Headline
 pub mod JobSteps
-pub mod KeyPrinting
 pub mod Legal
 pub mod Lines
 pub mod Near

@@ -22,7 +22,7 @@ use Rattle.plain_model.specs.declared.replies.Reply.{Reply}
 use Rattle.plain_model.specs.declared.replies.Reply.TheVariants as reply
 use Rattle.plain_model.specs.declared.replies.Refusal.{Refusal}
 use Rattle.plain_model.specs.declared.replies.Refusal.TheVariants as refused
-use Rattle.plain_model.specs.KeyPrinting.{key_text, token_text, bytes_text}
+use Rattle.cell_world.specs.KeyPrinting.{key_text, token_text, bytes_text}
 
 -- ---- words
 

@@ -17,7 +17,7 @@ ghost use Rattle.plain_model.specs.declared.replies.Label.TheVariants as label;
 ghost use Rattle.plain_model.specs.declared.replies.Refusal.TheVariants as refused;
 ghost use Rattle.plain_model.specs.declared.replies.Reply.TheVariants as reply;
 ghost use Rattle.plain_model.specs.Differing.{differences_of, kept_rows, clean};
-ghost use Rattle.plain_model.specs.KeyPrinting.{key_text, guid_unformed};
+ghost use Rattle.cell_world.specs.KeyPrinting.{key_text, guid_unformed};
 ghost use Rattle.plain_model.specs.Lines.{reply_lines};
 ghost use Rattle.plain_model.specs.Refusing.{refusal};
 ghost use Rattle.plain_model.specs.Steps.{plain_step, rest_of};

@@ -1,6 +1,6 @@
 use Rattle.std.proofs.Common.{refl}
 use Rattle.std.specs.Fmt.{digits}
-use Rattle.plain_model.specs.KeyPrinting.{key_text}
+use Rattle.cell_world.specs.KeyPrinting.{key_text}
 use Rattle.plain_model.proofs.laws.worked_texts.Goals as goal
 
 pub returns-clause-int_5 : goal.returns-clause-int_5

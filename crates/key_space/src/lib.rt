@@ -1,0 +1,6 @@
+//! Keys of six types: their values, their normal forms and their texts.
+#![tactic(auto)]
+
+pub mod keys;
+mod numbers;
+pub mod values;
