@@ -1,1 +1,3 @@
+pub mod DecimalTexts
+pub mod DecimalValues
 pub mod KeyForms

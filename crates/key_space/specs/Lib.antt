@@ -1,2 +1,4 @@
+pub mod Decimals
 pub mod Guids
+pub mod Texts
 pub mod Values
