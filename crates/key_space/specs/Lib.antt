@@ -1,4 +1,5 @@
 pub mod Decimals
 pub mod Guids
+pub mod HexTexts
 pub mod Texts
 pub mod Values

@@ -7,7 +7,7 @@ ghost use Rattle.key_space.specs.Values.{type_of, form_of, IsKey};
 ghost use Rattle.key_space.specs.declared.keys.Key.{Key as Value};
 
 use crate::numbers::{form_of_int, form_of_long, int_of, long_of};
-use crate::values::{Guid, KeyBytes, Ticks};
+use crate::values::{Guid, KeyBytes, Ticks, norm};
 use cell_world::cells::KeyType;
 use cell_world::norm_keys::NormKey;
 
@@ -21,14 +21,6 @@ pub enum Key {
     Datetime(Ticks),
     /// The number of 100-nanosecond ticks.
     Timespan(i64),
-}
-
-/// The normal form with these bytes.
-fn norm(bytes: &[u8]) -> NormKey
-    requires { length bytes.now ≤ 128 }
-    ensures { result ≡ bytes.now }
-{
-    NormKey::of_bytes(bytes).unwrap()
 }
 
 /// The bytes 10 to 15, 8, 9, 7, 6, 5, 4, 3, 2, 1, 0 of a guid.

@@ -1,8 +1,11 @@
 //! Keys of six types: their values, their normal forms and their texts.
 #![tactic(auto)]
 
+mod bytes_texts;
 mod decimals;
 pub mod faults;
+mod guid_texts;
+mod hex_digits;
 pub mod keys;
 mod numbers;
 pub mod values;

@@ -1,5 +1,5 @@
 //! The values of guid, bytes and datetime keys.
-ghost use Rattle.std.specs.Prelude.{◌≡◌, ◌≤◌, ◌^◌, IsTrue};
+ghost use Rattle.std.specs.Prelude.{◌≡◌, ◌≤◌, length, IsTrue};
 ghost use Rattle.std.specs.Option.{SomeIff};
 ghost use Rattle.cell_world.specs.Texts.{are_bytes};
 ghost use Rattle.cell_world.specs.KeyForms.{is_normal, last_tick, last_is_zero, guid_form};
@@ -147,4 +147,12 @@ impl KeyBytes {
     {
         self.form
     }
+}
+
+/// The normal form with these bytes.
+pub(crate) fn norm(bytes: &[u8]) -> NormKey
+    requires { length bytes.now ≤ 128 }
+    ensures { result ≡ bytes.now }
+{
+    NormKey::of_bytes(bytes).unwrap()
 }
