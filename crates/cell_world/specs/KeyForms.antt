@@ -2,7 +2,6 @@
 use Rattle.std.specs.Prelude.{ℕ, ◌+◌, ◌-◌, ◌*◌, ◌^◌, Bool, true, false, ◌&&◌, not, nat_le, nat_lt, ◌==◌, List, [], ◌∷◌, ◌++◌, length, map, slice_index, Option, Some, None, option_map, option_and_then, if◌then◌else◌}
 use Rattle.std.proofs.Common.{zero, suc}
 use Rattle.std.specs.Int.{from_be_bytes, to_be_bytes, w32, w64}
-use Rattle.std.specs.List.{list_all}
 use Rattle.cell_world.specs.Texts.{Text, is_digit, are_bytes}
 use Rattle.cell_world.specs.Keys.{before}
 use Rattle.cell_world.specs.declared.cells.KeyType.{KeyType}

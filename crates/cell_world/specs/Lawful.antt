@@ -1,5 +1,5 @@
 -- Which operations an image admits.
-use Rattle.std.specs.Prelude.{◌≡◌, ◌≢◌, ◌⊎◌, ℕ, Bool, true, false, ◌&&◌, not, List, [], ◌∷◌, ◌++◌, Option, Some, None, IfSome, IsTrue, IsSome, option_and_then}
+use Rattle.std.specs.Prelude.{◌≡◌, ◌≢◌, ◌⊎◌, ℕ, false, ◌&&◌, List, [], ◌∷◌, ◌++◌, Option, Some, None, IfSome, IsTrue, IsSome, option_and_then}
 use Rattle.std.specs.List.{list_any, AllByRecursion}
 use Rattle.std.specs.FinMap as map
 use Rattle.std.specs.FinSet as set
@@ -10,14 +10,14 @@ use Rattle.cell_world.specs.KeyForms.{is_span_of}
 use Rattle.cell_world.specs.Spelled.{listed, has_first}
 use Rattle.cell_world.specs.Stores.{Maps, Shards, Mappings, Jobs, AwaySites, Rows, piece_key}
 use Rattle.cell_world.specs.Images.{Image, Shard, global}
-use Rattle.cell_world.specs.Plain.{Owner, owner_in, is_attached}
+use Rattle.cell_world.specs.Plain.{owner_in, is_attached}
 use Rattle.cell_world.specs.Operations.{hull_of, sites_of}
 use Rattle.cell_world.specs.Jobs.{Replace, table_row, Gives, IsBatchEnd}
 use Rattle.cell_world.specs.declared.operations.Piece.{Piece}
 use Rattle.cell_world.specs.declared.operations.Op.{Op}
 use Rattle.cell_world.specs.declared.operations.JobRow.{JobRow}
 use Rattle.cell_world.specs.declared.operations.Phase.{Phase}
-use Rattle.cell_world.specs.declared.operations.Phase.TheVariants.{Idle, Copying, Moved}
+use Rattle.cell_world.specs.declared.operations.Phase.TheVariants.{Moved}
 use Rattle.cell_world.specs.declared.operations.Extra.TheVariants as extra
 use Rattle.cell_world.specs.declared.cells.Status.TheVariants.{Online, Offline}
 use Rattle.cell_world.specs.declared.spans.High.{High}

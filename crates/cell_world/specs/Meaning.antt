@@ -1,9 +1,9 @@
 -- Which local rows count, and the plain state that an image stands for.
-use Rattle.std.specs.Prelude.{ℕ, Bool, true, false, ◌&&◌, not, List, Option, Some, None, option_and_then, if◌then◌else◌, flat_map, IsTrue}
+use Rattle.std.specs.Prelude.{ℕ, Bool, true, false, ◌&&◌, not, List, Option, Some, None, option_and_then, if◌then◌else◌, flat_map}
 use Rattle.std.specs.FinMap as map
 use Rattle.cell_world.specs.Texts.{Text}
 use Rattle.cell_world.specs.Keys.{same, is_among}
-use Rattle.cell_world.specs.Stores.{Store, Log, Rows, AwaySites}
+use Rattle.cell_world.specs.Stores.{Log, AwaySites}
 use Rattle.cell_world.specs.Images.{Image, Shard, global}
 use Rattle.cell_world.specs.Plain.{PlainState, Held, holds_nothing, Owner, owner_in, is_attached, nobody}
 use Rattle.cell_world.specs.declared.operations.Piece.{Piece}

@@ -3,7 +3,6 @@ use Rattle.std.specs.Prelude.{Bool, false, ◌&&◌, List, [], ◌∷◌, ◌++�
 use Rattle.cell_world.specs.Texts.{Text}
 use Rattle.cell_world.specs.Keys.{same, below, overlaps, is_among, end_below}
 use Rattle.cell_world.specs.Spelled.{listed}
-use Rattle.cell_world.specs.declared.spans.High.{High}
 use Rattle.cell_world.specs.declared.spans.Span.{Span}
 use Rattle.cell_world.specs.declared.spans.Span.TheVariants.{Range, Point}
 use Rattle.cell_world.specs.declared.operations.Piece.{Piece}

@@ -116,10 +116,12 @@ impl Counters {
 #[derive(Clone, Copy, PartialEq, Eq)]
 pub struct LocalRow {
     pub map: Name,
+    /// The keys that it copies.
     pub span: Span,
     /// The operation that made it, or 0.
     pub number: u64,
     pub status: Status,
+    /// Whether an operation is under way here.
     pub mark: Mark,
 }
 
@@ -140,7 +142,9 @@ impl LocalRow {
 pub struct RowName {
     pub map: Name,
     pub key: NormKey,
+    /// One of the map's tables.
     pub table: Name,
+    /// Which of the rows of this key in this table.
     pub number: u64,
 }
 
