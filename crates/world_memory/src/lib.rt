@@ -1,0 +1,5 @@
+//! A world and a source in memory: the stores, the output and the input.
+#![tactic(auto)]
+
+mod contents;
+mod copies;
