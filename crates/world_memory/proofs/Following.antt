@@ -46,8 +46,8 @@ entry_added n s (e ∷ es) h = entry_added n (changed s (edits_at n e)) es h
 none_found : (entries : List (SiteKey × Cell)) (test : SiteKey → Bool) → entries ≡ [] → lookup test entries ≡ None
 none_found entries test is = ap (lookup test) is
 
-pub at_start : (m : BTreeMap SiteKey Cell) → IsEmpty m → IsAt [] m 0 0
-at_start m empty = record {
+pub at_start : (m : BTreeMap SiteKey Cell) → IsEmpty m → (happened : List Happened) → IsAt happened m 0 0
+at_start m empty happened = record {
   done_within = omega arith;
   part_within = omega arith;
   holds = λ q. none_found m.entries (is_at (ghosts.cmp q)) empty ∙ sym (cell_at-empty q.key);

@@ -1,3 +1,5 @@
 pub mod Changes
 pub mod Following
+pub mod Places
 pub mod Table
+pub mod Trails

@@ -71,9 +71,12 @@ fn make(
 }
 
 impl Contents {
+    ghost use Rattle.std.specs.Prelude.{List};
+    ghost use Rattle.world_memory.specs.declared.contents.Happened.{Happened};
+
     /// No entry is made, and nothing stands. Takes no memory.
     pub fn new(alloc: Global) -> Contents
-        ensures { IsAt [] result.cells result.done result.part }
+        ensures { (happened : List Happened) → IsAt happened result.cells result.done result.part }
     {
         Contents {
             cells: BTreeMap::new(alloc),

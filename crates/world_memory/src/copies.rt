@@ -2,9 +2,10 @@
 ghost use Rattle.std.specs.Prelude.{◌≡◌, IfOk};
 ghost use Rattle.cell_world.specs.Stores.{own_key};
 
+use crate::contents::Happened;
 use cell_world::cells::{Cell, CellKey};
 use cell_world::changes::{Change, Edit};
-use cell_world::items::Memory;
+use cell_world::items::{Items, Memory};
 use std::alloc::Global;
 
 /// The key under which a cell stands.
@@ -57,4 +58,38 @@ pub fn change_copied(change: &Change, alloc: Global) -> Result<Change, Memory>
         }
     }
     Ok(copy)
+}
+
+/// The same entries once more.
+pub fn happened_copied(happened: &[Happened], alloc: Global) -> Result<Vec<Happened>, Memory>
+    ensures { IfOk result (λ copy. copy.items ≡ happened.now) }
+{
+    let mut copy: Vec<Happened> = Vec::new(alloc);
+    for entry in happened {
+        let pushed = match entry {
+            Happened::Committed(site, change) => {
+                let change = change_copied(change, alloc)?;
+                copy.push(Happened::Committed(*site, change)).is_ok()
+            }
+            Happened::Wrote(bytes) => {
+                let bytes = bytes_copied(bytes.as_slice(), alloc)?;
+                copy.push(Happened::Wrote(bytes)).is_ok()
+            }
+            Happened::Reopened(site) => copy.push(Happened::Reopened(*site)).is_ok(),
+        };
+        if !pushed {
+            return Err(Memory);
+        }
+    }
+    Ok(copy)
+}
+
+/// The same bytes once more.
+pub fn bytes_copied(bytes: &[u8], alloc: Global) -> Result<Items<u8>, Memory>
+    ensures { IfOk result (λ copy. copy ≡ bytes.now) }
+{
+    match Vec::from_slice(alloc, bytes) {
+        Ok(copy) => Ok(Items::from_vec(copy)),
+        Err(_) => Err(Memory),
+    }
 }

@@ -3,3 +3,4 @@
 
 mod contents;
 mod copies;
+pub mod world;

@@ -1,0 +1,18 @@
+-- The facts that a world in memory keeps are propositions.
+use Rattle.std.specs.Prelude.{List, IsTrue}
+use Rattle.std.specs.List.{AllByRecursion, AllByRecursion-prop, IsDistinct, IsDistinct-prop}
+use Rattle.std.proofs.Props.{props}
+use Rattle.cell_world.specs.Texts.{Text, is_location}
+use Rattle.cell_world.specs.Keys.{same}
+use Rattle.world_memory.specs.Kept.{IsKept, all_edits}
+use Rattle.world_memory.specs.Propositions.{change}
+use Rattle.world_memory.specs.declared.contents.Happened.{Happened}
+
+pub spelled_fact : (locations : List Text) → IsProp (AllByRecursion (λ location. IsTrue (is_location location)) locations)
+spelled_fact = AllByRecursion-prop _ (λ location. hlevel props)
+
+pub distinct_fact : (locations : List Text) → IsProp (IsDistinct same locations)
+distinct_fact = IsDistinct-prop same
+
+pub kept_fact : (happened : List Happened) → IsProp (AllByRecursion IsKept happened)
+kept_fact = AllByRecursion-prop IsKept (λ h. change (all_edits h))
