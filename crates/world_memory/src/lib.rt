@@ -3,4 +3,5 @@
 
 mod contents;
 mod copies;
+mod find;
 pub mod world;

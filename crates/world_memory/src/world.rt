@@ -1,18 +1,22 @@
 //! Stores and output in memory.
-ghost use Rattle.std.specs.Prelude.{◌≡◌, ◌≤◌, ◌<◌, ◌==◌, ◌^◌, ◌∷◌, [], length, IsTrue, if◌then◌else◌};
+ghost use Rattle.std.specs.Prelude.{◌≡◌, ◌≤◌, ◌==◌, ◌∷◌, [], length, IsTrue, if◌then◌else◌};
 ghost use Rattle.std.specs.List.{IsDistinct, AllByRecursion};
-ghost use Rattle.cell_world.specs.Counts.{one_more};
+ghost use Rattle.cell_world.specs.Counts.{one_more, last_count};
 ghost use Rattle.cell_world.specs.Keys.{same};
 ghost use Rattle.cell_world.specs.Texts.{is_location};
 ghost use Rattle.world_memory.specs.Kept.{IsAt, IsKept};
 ghost use Rattle.world_memory.specs.Told.{wrote};
 ghost use Rattle.world_memory.specs.Facts.{spelled_fact, distinct_fact, kept_fact};
 
-use crate::contents::{Contents, Happened};
-use crate::copies::happened_copied;
-use cell_world::cells::Site;
+use crate::contents::{Contents, Happened, SiteKey};
+use crate::copies::{bytes_copied, cell_copied, change_copied, happened_copied};
+use cell_world::cells::{Cell, CellKey, Site};
+use cell_world::changes::Change;
 use cell_world::items::Memory;
 use cell_world::locations::Location;
+use cell_world::names::Name;
+use cell_world::norm_keys::NormKey;
+use cell_world::outside::{World, WorldError};
 use std::alloc::Global;
 
 /// Stores and output in memory. No call fails but for want of memory, and the whole trail is told.
@@ -31,7 +35,7 @@ pub struct MemoryWorld {
     ghost kept: { AllByRecursion IsKept happened.items } by { kept_fact happened.items },
     ghost within: { start ≤ length happened.items },
     ghost at: { IsAt happened.items contents.cells contents.done contents.part },
-    ghost counted: { reads < 2 ^ 64 },
+    ghost counted: { reads ≤ last_count },
 }
 
 /// Tells that each of the locations is spelled. Does nothing.
