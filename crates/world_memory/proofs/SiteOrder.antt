@@ -1,5 +1,5 @@
 -- The order of the table: by site, and then in cell order.
-use Rattle.std.proofs.Common.{◌≡◌, ℕ, ◌≤◌, ◌<◌, Bool, true, false, List, [], ◌∷◌, refl, sym, ap, ◌∙◌, subst, Some, None, Option, arith}
+use Rattle.std.proofs.Common.{◌≡◌, ℕ, ◌≤◌, ◌<◌, ◌==◌, ◌||◌, if◌then◌else◌, Bool, true, false, List, [], ◌∷◌, refl, sym, ap, ◌∙◌, subst, Some, None, Option, arith}
 use Rattle.std.specs.declared.cmp.Ordering.{Ordering}
 use Rattle.std.specs.declared.cmp.Ordering.TheVariants.{Less, Equal, Greater}
 use Rattle.std.specs.Ordering.{is_lt, is_gt, is_eq, ordering_then, ordering_reverse, nat_cmp, MatchOrdering}
@@ -66,12 +66,63 @@ kind_between j k l below above same =
     let b = number_first (kind_number k) (kind_number l) _ above in
     omega (arith, a, b, same)
 
-has_map : ℕ → Bool
-has_map n = false
-
 first_field : List Text → Option Text
 first_field [] = None
 first_field (t ∷ ts) = Some t
+
+-- which kinds have a map beside other fields
+abbrev kind_has_map : ℕ → Bool
+kind_has_map n = (n == 2) || ((n == 3) || ((n == 4) || ((n == 9) || (n == 10))))
+
+-- the map is the first field, where the kind has one
+map_is_first : (k : CellKey) → map_of k ≡ (if kind_has_map (kind_number k) then first_field (fields_of k) else None)
+unfolding first_field
+map_is_first (at.Map name) = refl
+map_is_first (at.Shard name location) = refl
+map_is_first (at.Table name table) = refl
+map_is_first (at.Piece name low) = refl
+map_is_first (at.Log number) = refl
+map_is_first (at.Job number) = refl
+map_is_first at.Counter = refl
+map_is_first (at.SiteState location) = refl
+map_is_first (at.Local name low number) = refl
+map_is_first (at.Row row) = refl
+
+-- fields between two lists of fields with one first field begin with it too
+first_between : (fs gs hs : List Text) → is_gt (slice_cmp byte_cmp fs gs) ≡ false → is_gt (slice_cmp byte_cmp gs hs) ≡ false → first_field fs ≡ first_field hs → first_field gs ≡ first_field hs
+unfolding first_field
+first_between [] [] [] below above same = refl
+first_between [] (g ∷ gs) [] below above same = cc
+first_between [] gs (h ∷ hs) below above same = cc
+first_between (f ∷ fs) gs [] below above same = cc
+first_between (f ∷ fs) [] (h ∷ hs) below above same = cc
+first_between (f ∷ fs) (g ∷ gs) (h ∷ hs) below above same =
+    let is : f ≡ h = cc in
+    let a : is_gt (byte_cmp f g) ≡ false = then_first (byte_cmp f g) (slice_cmp byte_cmp fs gs) below in
+    let b : is_gt (byte_cmp g h) ≡ false = then_first (byte_cmp g h) (slice_cmp byte_cmp gs hs) above in
+    ap Some (exact_texts g h (between nat_list_cmp_total g h b (subst (λ x. is_gt (byte_cmp x g) ≡ false) is a)))
+
+-- of two keys of one kind the fields decide
+fields_decide : (j k : CellKey) → kind_number j ≡ kind_number k → cell_cmp j k ≡ slice_cmp byte_cmp (fields_of j) (fields_of k)
+fields_decide j k is = same_number (kind_number j) (kind_number k) _ is
+
+-- a key between two of one kind and one map has that map
+pub map_between : (j k l : CellKey) → is_gt (cell_cmp j k) ≡ false → is_gt (cell_cmp k l) ≡ false → kind_number j ≡ kind_number l → map_of j ≡ map_of l → map_of k ≡ map_of l
+map_between j k l below above kinds maps =
+    map_is_first k ∙ ap (λ n. if kind_has_map n then first_field (fields_of k) else None) middle ∙ by (kind_has_map (kind_number l)) (sym (ap (λ n. if kind_has_map n then first_field (fields_of j) else None) kinds) ∙ sym (map_is_first j) ∙ maps ∙ map_is_first l) ∙ sym (map_is_first l)
+  where
+    middle : kind_number k ≡ kind_number l
+    middle = kind_between j k l below above kinds
+
+    a : is_gt (slice_cmp byte_cmp (fields_of j) (fields_of k)) ≡ false
+    a = sym (ap is_gt (fields_decide j k (kinds ∙ sym middle))) ∙ below
+
+    b : is_gt (slice_cmp byte_cmp (fields_of k) (fields_of l)) ≡ false
+    b = sym (ap is_gt (fields_decide k l middle)) ∙ above
+
+    by : (t : Bool) → (if t then first_field (fields_of j) else None) ≡ (if t then first_field (fields_of l) else None) → (if t then first_field (fields_of k) else None) ≡ (if t then first_field (fields_of l) else None)
+    by true same = first_between (fields_of j) (fields_of k) (fields_of l) a b same
+    by false same = refl
 
 -- ---- the table's order
 

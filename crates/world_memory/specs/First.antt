@@ -1,12 +1,15 @@
 -- The first cell of a kind from a key on.
-use Rattle.std.specs.Prelude.{◌≡◌, Bool, true, false, Option, Some, None}
+use Rattle.std.specs.Prelude.{◌≡◌, Bool, true, false, Option, Some, None, ◌∷◌, [], ◌^◌, ◌-◌, replicate}
 use Rattle.std.specs.Ordering.{is_lt}
 use Rattle.std.specs.declared.cmp.Ordering.TheVariants.{Less}
 use Rattle.std.specs.declared.ops.Bound.{Bound}
 use Rattle.std.specs.declared.ops.Bound.TheVariants.{Included, Excluded}
+use Rattle.cell_world.specs.Texts.{Text}
 use Rattle.cell_world.specs.Finding.{cell_cmp, kind_number}
 use Rattle.cell_world.specs.Stores.{Store, own_key, Stands}
 use Rattle.cell_world.specs.declared.cells.Cell.{Cell}
+use Rattle.cell_world.specs.declared.cells.Cell.TheVariants as cell
+use Rattle.cell_world.specs.declared.cells.RowName.{RowName}
 use Rattle.cell_world.specs.declared.cells.CellKey.{CellKey}
 use Rattle.world_memory.specs.declared.contents.SiteKey.{SiteKey}
 
@@ -29,3 +32,19 @@ IsFirst s key past (Some found) = Stands s found × IsFrom key past found × ((c
 abbrev pub begin_at : Bool → SiteKey → Bound SiteKey
 begin_at true from = Excluded from
 begin_at false from = Included from
+
+-- ---- rows
+
+abbrev pub row_named : Cell → Option RowName
+row_named (cell.Row row bytes) = Some row
+row_named c = None
+
+-- the name of a row, if this is one
+abbrev pub row_within : Option Cell → Option RowName
+row_within None = None
+row_within (Some c) = row_named c
+
+-- a row name that is at or below all rows of the key; with `past`, at or above all of them
+abbrev pub beside : Bool → Text → Text → RowName
+beside true map key = record { map = map; key = key; table = replicate 32 122; number = 2 ^ 64 - 1 }
+beside false map key = record { map = map; key = key; table = 65 ∷ []; number = 0 }

@@ -1,9 +1,9 @@
 //! Cells that are looked for by their order.
-ghost use Rattle.std.specs.Prelude.{◌≡◌, ◌↔◌, ℕ, IfOk, IsTrue};
+ghost use Rattle.std.specs.Prelude.{◌≡◌, ◌↔◌, ◌∷◌, [], ℕ, replicate, IfOk, IsTrue};
 ghost use Rattle.std.specs.Option.{option_copied};
 ghost use Rattle.cell_world.specs.Finding.{IsFloor, IsScan, IsNextKey, kind_number, map_of};
 ghost use Rattle.cell_world.specs.Stores.{Store, IsStore, IsKeyed};
-ghost use Rattle.world_memory.specs.First.{IsFirst, begin_at};
+ghost use Rattle.world_memory.specs.First.{IsFirst, begin_at, row_within, beside};
 ghost use Rattle.world_memory.specs.Kept.{Holds};
 
 use crate::contents::SiteKey;
@@ -80,7 +80,9 @@ fn first<'a>(cells: &'a BTreeMap<SiteKey, Cell>, from: &SiteKey, past: bool) -> 
     ensures { (stores : ℕ → Store) → Holds cells.now stores → IsKeyed (stores from.now.site) → IsFirst (stores from.now.site) from.now.key past (option_copied result) }
 {
     let mut range = cells.range((begin_at(from, past), Bound::Unbounded));
-    let (at, cell) = range.next()?;
+    let Some((at, cell)) = range.next() else {
+        return None;
+    };
     if !same_kind(at, from) {
         return None;
     }
@@ -108,4 +110,102 @@ pub fn floor(
         return Ok(None);
     }
     Ok(Some(cell_copied(cell, alloc)?))
+}
+
+/// The first cells at or above a key of its kind: `limit` of them, or all where there are fewer.
+pub fn scan(
+    cells: &BTreeMap<SiteKey, Cell>,
+    alloc: Global,
+    site: Site,
+    from: &CellKey,
+    limit: u32,
+) -> Result<Vec<Cell>, Memory>
+    ensures { IfOk result (λ found. (stores : ℕ → Store) → Holds cells.now stores → IsKeyed (stores site.0) → IsScan (stores site.0) from.now limit found.items) }
+{
+    let mut found: Vec<Cell> = Vec::new(alloc);
+    let mut at = *from;
+    let mut past = false;
+    while found.len() < limit as usize {
+        let here = SiteKey {
+            site: site.0,
+            key: at,
+        };
+        let Some(cell) = first(cells, &here, past) else {
+            return Ok(found);
+        };
+        at = key_of(cell);
+        past = true;
+        if found.push(cell_copied(cell, alloc)?).is_err() {
+            return Err(Memory);
+        }
+    }
+    Ok(found)
+}
+
+/// The least name.
+fn least_name() -> Name
+    ensures { result ≡ 65 ∷ [] }
+{
+    Name::read(b"A").unwrap()
+}
+
+/// The greatest name.
+fn greatest_name() -> Name
+    ensures { result ≡ replicate 32 122 }
+{
+    Name::read(&[b'z'; 32]).unwrap()
+}
+
+/// The name of a row, if this is one.
+fn row_of(cell: Option<&Cell>) -> Option<RowName>
+    ensures { result ≡ row_within (option_copied cell.entry) }
+{
+    match cell {
+        Some(Cell::Row(row, _)) => Some(*row),
+        _ => None,
+    }
+}
+
+/// A row name before all rows of a key, or one after all of them.
+fn beside(map: &Name, key: &NormKey, past: bool) -> RowName
+    ensures { result ≡ beside past map.now key.now }
+{
+    if past {
+        RowName {
+            map: *map,
+            key: *key,
+            table: greatest_name(),
+            number: u64::MAX,
+        }
+    } else {
+        RowName {
+            map: *map,
+            key: *key,
+            table: least_name(),
+            number: 0,
+        }
+    }
+}
+
+/// The least key of a row of the map at or above this one; with `past`, above it.
+pub fn next_key(
+    cells: &BTreeMap<SiteKey, Cell>,
+    site: Site,
+    map: &Name,
+    from: &NormKey,
+    past: bool,
+) -> Option<NormKey>
+    ensures { (stores : ℕ → Store) → Holds cells.now stores → IsStore (stores site.0) → IsNextKey (stores site.0).rows map.now from.now past result }
+{
+    let here = SiteKey {
+        site: site.0,
+        key: CellKey::Row(beside(map, from, past)),
+    };
+    let Some(row) = row_of(first(cells, &here, past)) else {
+        return None;
+    };
+    if row.map != *map {
+        return None;
+    }
+    Some(row.key)
 }
