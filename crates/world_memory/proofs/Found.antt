@@ -133,4 +133,4 @@ module _ (m : BTreeMap SiteKey Cell) (stores : ℕ → Store) (from : SiteKey) (
 
 -- what a test that fails refuses
 pub refused : {A : Type 0} (b : Bool) → (A → b ≡ true) → b ≡ false → A → ⊥
-refused b yes is a = let t : b ≡ true = yes a in cc
+refused b holds is a = let t : b ≡ true = holds a in cc

@@ -1,7 +1,9 @@
 pub mod Changes
 pub mod Following
 pub mod Found
+pub mod NextKey
 pub mod Places
+pub mod Scanned
 pub mod SiteOrder
 pub mod Table
 pub mod Trails
