@@ -150,6 +150,14 @@ some_value : {A : Type 0} (x : Option A) → IsSome x → (a : A) × (x ≡ Some
 some_value None h = cc
 some_value (Some a) h = (a, refl)
 
+mapped_some : {A B : Type 0} (f : A → B) (x : Option A) (b : B) → option_map f x ≡ Some b → IsSome x
+mapped_some f None b e = cc
+mapped_some f (Some a) b e = refl
+
+beside_map : (past : Bool) (name from : Text) → (beside past name from).map ≡ name
+beside_map true name from = refl
+beside_map false name from = refl
+
 named_is : (c : Cell) (row : RowName) → row_named c ≡ Some row → (bytes : Text) × (c ≡ cell.Row row bytes)
 named_is (cell.Row r bytes) row e = let is : r ≡ row = cc in (bytes, ap (λ x. cell.Row x bytes) is)
 named_is (cell.Map name kind type) row e = cc
@@ -201,7 +209,7 @@ module _ (s : Store) (name from : Text) (past : Bool) (is : IsStore s) where
   other_next (Some f) row first e other key k =
       let n = named_is f row e in
       let it : IsFirst s bound past (Some (cell.Row row n.0)) = subst (λ c. IsFirst s bound past (Some c)) n.1 first in
-      let maps : Some row.map ≡ Some name = map_between bound (at.Row row) (at.Row (row_at key k)) (on_not_above past bound (at.Row row) it.1.order) (least row n.0 it key k) refl refl in
+      let maps : Some row.map ≡ Some name = map_between bound (at.Row row) (at.Row (row_at key k)) (on_not_above past bound (at.Row row) it.1.order) (least row n.0 it key k) refl (ap Some (beside_map past name from)) in
       other cc
 
   pub is_next : (x : Option Cell) (row : RowName) → IsFirst s bound past x → row_within x ≡ Some row → row.map ≡ name → IsNextKey s.rows name from past (Some row.key)
@@ -210,6 +218,6 @@ module _ (s : Store) (name from : Text) (past : Bool) (is : IsStore s) where
       let n = named_is f row e in
       let it : IsFirst s bound past (Some (cell.Row row n.0)) = subst (λ c. IsFirst s bound past (Some c)) n.1 first in
       let typed : IsRowName row = (is.cells (cell.Row row n.0) it.0).typed.0 in (
-        record { table = row.table; number = row.number; stands = ?; above = from_row past name from row same typed it.1.order },
+        record { table = row.table; number = row.number; stands = subst (λ m. IsSome (map.get s.rows (record { map = m; key = row.key; table = row.table; number = row.number }))) same (mapped_some (cell.Row row) (map.get s.rows row) (cell.Row row n.0) it.0); above = from_row past name from row same typed it.1.order },
         λ key k. ap not (first_not_above (byte_cmp row.key key) _ (sym (ap is_gt (row_order row (row_at key k) same)) ∙ least row n.0 it key k)),
       )

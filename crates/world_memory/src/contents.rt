@@ -1,6 +1,6 @@
 //! What the stores hold, in one table that follows what happened.
-ghost use Rattle.std.specs.Prelude.{◌≡◌, ◌≤◌, ◌<◌, ◌+◌, ◌==◌, ℕ, [], length, take, OnOk, OnErr, IfOk, if◌then◌else◌};
-ghost use Rattle.cell_world.specs.Stores.{Store, edited, changed, cell_at, empty_store};
+ghost use Rattle.std.specs.Prelude.{◌≡◌, ◌≤◌, ◌<◌, ◌+◌, ◌==◌, ℕ, [], length, take, OnOk, OnErr, if◌then◌else◌};
+ghost use Rattle.cell_world.specs.Stores.{Store, edited, changed, empty_store};
 ghost use Rattle.world_memory.specs.Kept.{Holds, IsAt, store_after};
 
 use crate::copies::{cell_copied, key_of};
@@ -125,19 +125,5 @@ impl Contents {
             self.step(alloc, happened)?;
         }
         Ok(())
-    }
-
-    /// The cell of a key.
-    pub fn get(&self, alloc: Global, site: Site, key: &CellKey) -> Result<Option<Cell>, Memory>
-        ensures { IfOk result (λ found. (stores : ℕ → Store) → Holds self.now.cells stores → found ≡ cell_at (stores site.0) key.now) }
-    {
-        let at = SiteKey {
-            site: site.0,
-            key: *key,
-        };
-        match self.cells.get(&at) {
-            Some(cell) => Ok(Some(cell_copied(cell, alloc)?)),
-            None => Ok(None),
-        }
     }
 }

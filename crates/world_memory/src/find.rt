@@ -2,7 +2,7 @@
 ghost use Rattle.std.specs.Prelude.{◌≡◌, ◌↔◌, ◌∷◌, [], ℕ, replicate, IfOk, IsTrue};
 ghost use Rattle.std.specs.Option.{option_copied};
 ghost use Rattle.cell_world.specs.Finding.{IsFloor, IsScan, IsNextKey, kind_number, map_of};
-ghost use Rattle.cell_world.specs.Stores.{Store, IsStore, IsKeyed};
+ghost use Rattle.cell_world.specs.Stores.{Store, IsStore, IsKeyed, cell_at};
 ghost use Rattle.world_memory.specs.First.{IsFirst, begin_at, row_within, beside};
 ghost use Rattle.world_memory.specs.Kept.{Holds};
 
@@ -87,6 +87,25 @@ fn first<'a>(cells: &'a BTreeMap<SiteKey, Cell>, from: &SiteKey, past: bool) -> 
         return None;
     }
     Some(cell)
+}
+
+/// The cell of a key.
+pub fn find(
+    cells: &BTreeMap<SiteKey, Cell>,
+    alloc: Global,
+    site: Site,
+    key: &CellKey,
+) -> Result<Option<Cell>, Memory>
+    ensures { IfOk result (λ found. (stores : ℕ → Store) → Holds cells.now stores → found ≡ cell_at (stores site.0) key.now) }
+{
+    let at = SiteKey {
+        site: site.0,
+        key: *key,
+    };
+    match cells.get(&at) {
+        Some(cell) => Ok(Some(cell_copied(cell, alloc)?)),
+        None => Ok(None),
+    }
 }
 
 /// The greatest cell at or below a key of its kind and its map.

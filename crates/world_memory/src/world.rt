@@ -8,8 +8,9 @@ ghost use Rattle.world_memory.specs.Kept.{IsAt, IsKept};
 ghost use Rattle.world_memory.specs.Told.{wrote};
 ghost use Rattle.world_memory.specs.Facts.{spelled_fact, distinct_fact, kept_fact};
 
-use crate::contents::{Contents, Happened, SiteKey};
-use crate::copies::{bytes_copied, cell_copied, change_copied, happened_copied};
+use crate::contents::{Contents, Happened};
+use crate::copies::{bytes_copied, change_copied, happened_copied};
+use crate::find::{find, floor, next_key, scan};
 use cell_world::cells::{Cell, CellKey, Site};
 use cell_world::changes::Change;
 use cell_world::items::Memory;
@@ -69,9 +70,11 @@ fn bytes_of(entry: &Happened) -> &[u8]
 }
 
 impl MemoryWorld {
-    ghost use Rattle.std.specs.Prelude.{IfOk};
+    ghost use Rattle.std.specs.Prelude.{IfOk, OnOk, Err};
+    ghost use Rattle.cell_world.specs.Stores.{empty_store};
+    ghost use Rattle.world_memory.specs.Kept.{Holds, store_after};
     ghost use Rattle.cell_world.specs.Images.{empty_image, image_at, end_of_trail, written};
-    ghost use Rattle.cell_world.specs.Outside.{IfTrail};
+    ghost use Rattle.cell_world.specs.Outside.{IfTrail, Same, read_at};
     ghost use Rattle.world_memory.specs.Told.{fresh};
     ghost use Rattle.world_memory.specs.Memory.{outside_of};
 
@@ -113,6 +116,19 @@ impl MemoryWorld {
         })
     }
 
+    /// Counts a read of the site, and makes the table hold what the stores hold now.
+    fn follow(&mut self, alloc: Global, site: Site) -> Result<(), WorldError>
+        ensures same { Same (read_at (outside_of self.old) site) (outside_of self.new) }
+        ensures holds { OnOk result (Holds self.new.contents.cells (λ n. store_after n empty_store self.old.happened.items)) }
+        ensures cause { result ≡ Err WorldError.Failed → ⊥ }
+    {
+        self.reads = counted(self.reads, site);
+        match self.contents.follow(alloc, self.happened.as_slice()) {
+            Ok(()) => Ok(()),
+            Err(_) => Err(WorldError::Memory),
+        }
+    }
+
     /// The bytes that were written.
     pub fn output(&self, alloc: Global) -> Result<Vec<u8>, Memory>
         ensures { IfOk result (λ bytes. IfTrail (outside_of self.now).told (λ trail. bytes.items ≡ written trail.happened)) }
@@ -124,5 +140,107 @@ impl MemoryWorld {
             }
         }
         Ok(bytes)
+    }
+}
+
+impl World for MemoryWorld {
+    ghost use Rattle.world_memory.specs.Laws.{is_world};
+    ghost use Rattle.world_memory.specs.Memory.{outside_of};
+
+    ghost outside = { outside_of };
+
+    ghost laws = { λ w. is_world w.locations.items w.happened.items w.start w.reads w.spelled w.distinct w.few w.kept w.counted };
+
+    fn locate(&self, at: &Location) -> Option<Site> {
+        for (number, location) in self.locations.iter().enumerate() {
+            if at == location {
+                return Some(Site(number as u16 + 1));
+            }
+        }
+        None
+    }
+
+    fn read(
+        &mut self,
+        alloc: Global,
+        site: Site,
+        key: &CellKey,
+    ) -> Result<Option<Cell>, WorldError> {
+        self.follow(alloc, site)?;
+        match find(&self.contents.cells, alloc, site, key) {
+            Ok(found) => Ok(found),
+            Err(_) => Err(WorldError::Memory),
+        }
+    }
+
+    fn commit(&mut self, alloc: Global, site: Site, change: &Change) -> Result<(), WorldError> {
+        change.known();
+        let Ok(copy) = change_copied(change, alloc) else {
+            return Err(WorldError::Memory);
+        };
+        match self.happened.push(Happened::Committed(site, copy)) {
+            Ok(()) => Ok(()),
+            Err(_) => Err(WorldError::Memory),
+        }
+    }
+
+    fn write(&mut self, alloc: Global, bytes: &[u8]) -> Result<(), WorldError> {
+        let Ok(copy) = bytes_copied(bytes, alloc) else {
+            return Err(WorldError::Memory);
+        };
+        match self.happened.push(Happened::Wrote(copy)) {
+            Ok(()) => Ok(()),
+            Err(_) => Err(WorldError::Memory),
+        }
+    }
+
+    fn reopen(&mut self, alloc: Global, site: Site) -> Result<(), WorldError> {
+        match self.happened.push(Happened::Reopened(site)) {
+            Ok(()) => Ok(()),
+            Err(_) => Err(WorldError::Memory),
+        }
+    }
+
+    fn moment(&self) -> u64 {
+        (self.happened.len() - self.start) as u64
+    }
+
+    fn floor(
+        &mut self,
+        alloc: Global,
+        site: Site,
+        key: &CellKey,
+    ) -> Result<Option<Cell>, WorldError> {
+        self.follow(alloc, site)?;
+        match floor(&self.contents.cells, alloc, site, key) {
+            Ok(found) => Ok(found),
+            Err(_) => Err(WorldError::Memory),
+        }
+    }
+
+    fn scan(
+        &mut self,
+        alloc: Global,
+        site: Site,
+        from: &CellKey,
+        limit: u32,
+    ) -> Result<Vec<Cell>, WorldError> {
+        self.follow(alloc, site)?;
+        match scan(&self.contents.cells, alloc, site, from, limit) {
+            Ok(found) => Ok(found),
+            Err(_) => Err(WorldError::Memory),
+        }
+    }
+
+    fn next_key(
+        &mut self,
+        alloc: Global,
+        site: Site,
+        map: &Name,
+        from: &NormKey,
+        past: bool,
+    ) -> Result<Option<NormKey>, WorldError> {
+        self.follow(alloc, site)?;
+        Ok(next_key(&self.contents.cells, site, map, from, past))
     }
 }
