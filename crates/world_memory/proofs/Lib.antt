@@ -2,6 +2,7 @@ pub mod Changes
 pub mod Following
 pub mod Found
 pub mod NextKey
+pub mod Now
 pub mod Places
 pub mod Scanned
 pub mod SiteOrder

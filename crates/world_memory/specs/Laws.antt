@@ -33,7 +33,7 @@ image_one locations image (kept.Reopened at) are is = by (place_at locations at.
     by None = is
     by (Some p) = λ q. one_of (same_place p q) _ _ (is p) (is q)
 
-image_leaves : (locations : List Text) (image : Image) (hs : List Happened) (n : ℕ) → AllByRecursion IsKept hs → IsImage image → IsImage (leaves locations image (take n hs))
+pub image_leaves : (locations : List Text) (image : Image) (hs : List Happened) (n : ℕ) → AllByRecursion IsKept hs → IsImage image → IsImage (leaves locations image (take n hs))
 image_leaves locations image hs zero are is = is
 image_leaves locations image [] (suc n) are is = is
 image_leaves locations image (h ∷ hs) (suc n) are is = image_leaves locations (after_one image (told_as locations image h)) hs n are.1 (image_one locations image h are.0 is)

@@ -152,12 +152,8 @@ impl World for MemoryWorld {
     ghost laws = { λ w. is_world w.locations.items w.happened.items w.start w.reads w.spelled w.distinct w.few w.kept w.counted };
 
     fn locate(&self, at: &Location) -> Option<Site> {
-        for (number, location) in self.locations.iter().enumerate() {
-            if at == location {
-                return Some(Site(number as u16 + 1));
-            }
-        }
-        None
+        let number = self.locations.iter().position(|location| at == location)?;
+        Some(Site(number as u16 + 1))
     }
 
     fn read(
@@ -178,27 +174,27 @@ impl World for MemoryWorld {
         let Ok(copy) = change_copied(change, alloc) else {
             return Err(WorldError::Memory);
         };
-        match self.happened.push(Happened::Committed(site, copy)) {
-            Ok(()) => Ok(()),
-            Err(_) => Err(WorldError::Memory),
+        if self.happened.push(Happened::Committed(site, copy)).is_err() {
+            return Err(WorldError::Memory);
         }
+        Ok(())
     }
 
     fn write(&mut self, alloc: Global, bytes: &[u8]) -> Result<(), WorldError> {
         let Ok(copy) = bytes_copied(bytes, alloc) else {
             return Err(WorldError::Memory);
         };
-        match self.happened.push(Happened::Wrote(copy)) {
-            Ok(()) => Ok(()),
-            Err(_) => Err(WorldError::Memory),
+        if self.happened.push(Happened::Wrote(copy)).is_err() {
+            return Err(WorldError::Memory);
         }
+        Ok(())
     }
 
     fn reopen(&mut self, alloc: Global, site: Site) -> Result<(), WorldError> {
-        match self.happened.push(Happened::Reopened(site)) {
-            Ok(()) => Ok(()),
-            Err(_) => Err(WorldError::Memory),
+        if self.happened.push(Happened::Reopened(site)).is_err() {
+            return Err(WorldError::Memory);
         }
+        Ok(())
     }
 
     fn moment(&self) -> u64 {
