@@ -1,5 +1,5 @@
 -- What the world is now: its stores, and what one thing more makes of it.
-use Rattle.std.proofs.Common.{◌≡◌, ℕ, ◌+◌, ◌-◌, ◌≤◌, Bool, true, false, ◌==◌, if◌then◌else◌, List, [], ◌∷◌, ◌++◌, length, take, refl, sym, ap, ◌∙◌, subst, Some, None, Option, option_map, unwrap_or, IsSome, arith, length-append}
+use Rattle.std.proofs.Common.{◌≡◌, ℕ, ◌+◌, ◌-◌, ◌≤◌, Bool, true, false, ◌==◌, if◌then◌else◌, List, [], ◌∷◌, ◌++◌, length, take, refl, sym, ap, ◌∙◌, subst, Some, None, Option, option_map, unwrap_or, IsSome, Result, Ok, Err, arith, length-append}
 use Rattle.std.proofs.Math.Seq.{take-length}
 use Rattle.std.specs.List.{IsDistinct, AllByRecursion}
 use Rattle.std.specs.BTreeMap.{BTreeMap}
@@ -7,13 +7,16 @@ use Rattle.cell_world.specs.Texts.{Text}
 use Rattle.cell_world.specs.Keys.{same}
 use Rattle.cell_world.specs.Counts.{one_more}
 use Rattle.cell_world.specs.Stores.{Store, IsStore, empty_store}
-use Rattle.cell_world.specs.Images.{Image, Place, Happening, Reopened, IsImage, empty_image, image_at, end_of_trail, extended}
-use Rattle.cell_world.specs.Outside.{Outside, TellsTrail, Same, happens_at, place_at, store_at, read_at}
+use Rattle.cell_world.specs.Images.{Image, Place, Happening, Committed, Wrote, Reopened, IsImage, empty_image, image_at, end_of_trail, extended}
+use Rattle.cell_world.specs.Outside.{Outside, TellsTrail, Same, happens, happens_at, place_at, store_at, read_at}
 use Rattle.cell_world.specs.declared.cells.Site.{Site}
 use Rattle.cell_world.specs.declared.cells.Cell.{Cell}
 use Rattle.cell_world.proofs.KeyedLaws.{store_empty}
 use Rattle.world_memory.specs.declared.contents.SiteKey.{SiteKey}
 use Rattle.world_memory.specs.declared.contents.Happened.{Happened}
+use Rattle.world_memory.specs.declared.contents.Happened.TheVariants as kept
+use Rattle.cell_world.specs.declared.changes.Edit.{Edit}
+use Rattle.std.specs.Result.{is_ok, is_err}
 use Rattle.world_memory.specs.Kept.{IsKept, IsAt, store_after}
 use Rattle.world_memory.specs.Told.{told_as, leaves, trail_from, tells}
 use Rattle.world_memory.specs.Laws.{image_leaves}
@@ -87,3 +90,27 @@ module _ (hs : List Happened) (e : Happened) where
   pub at_after : (b : Bool) (after : List Happened) (m : BTreeMap SiteKey Cell) (done part : ℕ) → after ≡ (if b then hs ++ e ∷ [] else hs) → IsAt hs m done part → IsAt after m done part
   at_after true after m done part is at = subst (λ xs. IsAt xs m done part) (sym is) (follow.one_more hs e m done part at)
   at_after false after m done part is at = subst (λ xs. IsAt xs m done part) (sym is) at
+
+  -- the push had room
+  pub pushed : {T E : Type 0} (after : List Happened) (r : Result T E) → false ≡ is_err r → after ≡ (if is_ok r then hs ++ e ∷ [] else hs) → after ≡ hs ++ e ∷ []
+  pushed after (Ok x) h is = is
+  pushed after (Err y) h is = cc
+
+-- what a commit is told as
+pub committed : (l : List Text) (before : Image) (site : Site) (copy change : List Edit) → copy ≡ change → (place : Place) → place_at l site.0 ≡ Some place → told_as l before (kept.Committed site copy) ≡ Committed place change true
+committed l before site copy change same place is = ap (λ p. unwrap_or (option_map (λ q. Committed q copy true) p) (Wrote [])) is ∙ ap (λ es. Committed place es true) same
+
+module _ (l : List Text) (hs : List Happened) (start reads : ℕ) (within : start ≤ length hs) where
+  pub has_written : (copy bytes : Text) (after : List Happened) → copy ≡ bytes → after ≡ hs ++ kept.Wrote copy ∷ [] → Same (happens (tells l (trail_from l hs start) reads) (Wrote bytes)) (tells l (trail_from l after start) reads)
+  has_written copy bytes after same is = same_as _ _
+      (ap (λ xs. tells l (trail_from l xs start) reads) is
+      ∙ ap (λ t. tells l t reads) (trail_added l hs (kept.Wrote copy) start within ∙ ap (λ b. extended (trail_from l hs start) (Wrote b)) same))
+
+  pub has_reopened : (site : Site) → IsSome (place_at l site.0) → IsDistinct same l → AllByRecursion IsKept hs → (after : List Happened) → after ≡ hs ++ kept.Reopened site ∷ []
+      → (cells : Store) × IsStore cells × Same (happens_at (tells l (trail_from l hs start) reads) site (λ place. Reopened place cells)) (tells l (trail_from l after start) reads)
+  has_reopened site known apart are after is = (
+    store_after site.0 empty_store hs,
+    now_store l hs start reads within site known apart are,
+    happened_at l hs start reads within site known (λ place. Reopened place (store_after site.0 empty_store hs)) (kept.Reopened site) after is
+        (λ place p. ap (λ q. unwrap_or (option_map (λ x. Reopened x ((leaves l (empty_image l) hs).at x)) q) (Wrote [])) p ∙ ap (Reopened place) (stores_left l (empty_image l) site.0 place hs apart p)),
+  )

@@ -4,4 +4,5 @@
 mod contents;
 mod copies;
 mod find;
+pub mod source;
 pub mod world;

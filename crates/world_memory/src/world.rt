@@ -1,6 +1,6 @@
 //! Stores and output in memory.
-ghost use Rattle.std.specs.Prelude.{◌≡◌, ◌≤◌, ◌==◌, ◌∷◌, [], length, IsTrue, if◌then◌else◌};
-ghost use Rattle.std.specs.List.{IsDistinct, AllByRecursion};
+ghost use Rattle.std.specs.Prelude.{◌≡◌, ◌≤◌, ◌<◌, ◌==◌, ◌∷◌, [], length, IsTrue, IfSome, if◌then◌else◌};
+ghost use Rattle.std.specs.List.{IsDistinct, AllByRecursion, position};
 ghost use Rattle.cell_world.specs.Counts.{one_more, last_count};
 ghost use Rattle.cell_world.specs.Keys.{same};
 ghost use Rattle.cell_world.specs.Texts.{is_location};
@@ -46,6 +46,16 @@ fn known_locations(locations: &[Location])
     for location in locations {
         location.known();
     }
+}
+
+/// Where a location stands among these.
+fn place_of(locations: &[Location], at: &Location) -> Option<usize>
+    ensures place { result ≡ position (same at.now) locations.now }
+    ensures within { IfSome result (λ n. n < length locations.now) }
+{
+    locations
+        .iter()
+        .position(|location| at.cmp(location).is_eq())
 }
 
 /// How often the global store was read, with one read of this site.
@@ -152,8 +162,10 @@ impl World for MemoryWorld {
     ghost laws = { λ w. is_world w.locations.items w.happened.items w.start w.reads w.spelled w.distinct w.few w.kept w.counted };
 
     fn locate(&self, at: &Location) -> Option<Site> {
-        let number = self.locations.iter().position(|location| at == location)?;
-        Some(Site(number as u16 + 1))
+        match place_of(self.locations.as_slice(), at) {
+            Some(number) => Some(Site(number as u16 + 1)),
+            None => None,
+        }
     }
 
     fn read(

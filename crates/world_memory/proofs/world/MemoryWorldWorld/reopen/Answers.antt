@@ -1,4 +1,20 @@
+use Rattle.std.proofs.Common.{◌≡◌, ◌++◌, ◌∷◌, [], arith, sym, ap, ◌∙◌, subst, Some, true, refl}
+use Rattle.std.specs.Result.{is_ok}
+use Rattle.world_memory.specs.declared.contents.Happened.TheVariants as kept
+use Rattle.world_memory.proofs.Now.{kept_after, within_after, at_after, has_reopened, pushed}
 use Rattle.world_memory.proofs.world.MemoryWorldWorld.reopen.Goals as goal
 
 pub invariant_of-self : goal.invariant_of-self
-invariant_of-self c = ?
+invariant_of-self c = record {
+  spelled = c.args.self.now.spelled;
+  distinct = c.args.self.now.distinct;
+  few = c.args.self.now.few;
+  kept = kept_after c.args.self.now.happened.items (kept.Reopened c.args.site) (is_ok c.push.result) c.push.new.self.items c.push.ensures.items c.args.self.now.kept tt;
+  within = within_after c.args.self.now.happened.items (kept.Reopened c.args.site) (is_ok c.push.result) c.push.new.self.items c.args.self.now.start c.push.ensures.items c.args.self.now.within;
+  at = at_after c.args.self.now.happened.items (kept.Reopened c.args.site) (is_ok c.push.result) c.push.new.self.items c.args.self.now.contents.cells c.args.self.now.contents.done c.args.self.now.contents.part c.push.ensures.items c.args.self.now.at;
+  counted = c.args.self.now.counted;
+}
+
+pub returns-clause-reopened : goal.returns-clause-reopened
+returns-clause-reopened c = has_reopened c.args.self.now.locations.items c.args.self.now.happened.items c.args.self.now.start c.args.self.now.reads c.args.self.now.within c.args.site c.requires c.args.self.now.distinct c.args.self.now.kept c.push.new.self.items
+    (pushed c.args.self.now.happened.items (kept.Reopened c.args.site) c.push.new.self.items c.push.result c.if-is_err.ensures.value c.push.ensures.items)
