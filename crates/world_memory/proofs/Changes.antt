@@ -1,5 +1,5 @@
 -- A change that is copied edit by edit.
-use Rattle.std.proofs.Common.{◌≡◌, ◌≤◌, ◌<◌, ℕ, suc, zero, List, [], ◌∷◌, length, get_or, arith}
+use Rattle.std.proofs.Common.{◌<◌, ℕ, suc, zero, List, [], ◌∷◌, length, get_or, arith}
 use Rattle.cell_world.specs.Spelled.{IsEdit, AreEdits}
 use Rattle.cell_world.specs.declared.changes.Edit.{Edit}
 

@@ -1,7 +1,7 @@
 -- How the table follows what happened.
-use Rattle.std.proofs.Common.{◌≡◌, ℕ, suc, zero, ◌+◌, ◌≤◌, ◌<◌, ◌==◌, Bool, true, false, if◌then◌else◌, List, [], ◌∷◌, ◌++◌, length, take, get_or, refl, sym, ap, ◌∙◌, subst, Some, None, Option, arith, ⊎_elim, length-append}
+use Rattle.std.proofs.Common.{◌≡◌, ℕ, suc, zero, ◌+◌, ◌≤◌, ◌<◌, ◌==◌, Bool, true, false, if◌then◌else◌, List, [], ◌∷◌, ◌++◌, length, take, get_or, refl, sym, ap, ◌∙◌, subst, Some, None, arith, ⊎_elim, length-append}
 use Rattle.std.specs.List.{slice_get}
-use Rattle.std.specs.BTreeMap.{BTreeMap, get, get_by, IsEmpty, is_at}
+use Rattle.std.specs.BTreeMap.{BTreeMap, IsEmpty, is_at}
 use Rattle.std.specs.Map.{lookup}
 use Rattle.std.proofs.lemmas.List.{take_all, take-append-le}
 use Rattle.std.proofs.lemmas.Bool.{cases_lt}
@@ -15,7 +15,7 @@ use Rattle.world_memory.specs.declared.contents.SiteKey.{SiteKey}
 use Rattle.world_memory.specs.declared.contents.Happened.{Happened}
 use Rattle.world_memory.specs.declared.contents.Happened.TheVariants.{Committed, Wrote, Reopened}
 use Rattle.world_memory.specs.contracts.contents.SiteKeyOrd.TheImpl.{ghosts}
-use Rattle.world_memory.specs.Kept.{Holds, IsAt, edits_at, all_edits, edits_of, next_edits, store_after, stores_at}
+use Rattle.world_memory.specs.Kept.{Holds, IsAt, edits_at, all_edits, edits_of, next_edits, store_after}
 
 -- what a table holds is the same where the stores are
 pub same_holds : (m : BTreeMap SiteKey Cell) (s t : ℕ → Store) → ((n : ℕ) → s n ≡ t n) → Holds m s → Holds m t

@@ -1,5 +1,5 @@
 -- The next key of a row.
-use Rattle.std.proofs.Common.{◌≡◌, ℕ, suc, zero, ◌+◌, ◌-◌, ◌^◌, ◌≤◌, ◌<◌, Bool, true, false, not, ◌&&◌, ◌||◌, ◌==◌, nat_lt, if◌then◌else◌, List, [], ◌∷◌, length, replicate, refl, sym, ap, ◌∙◌, subst, Some, None, Option, option_map, IsSome, IsTrue, arith}
+use Rattle.std.proofs.Common.{◌≡◌, ℕ, suc, zero, ◌-◌, ◌^◌, ◌≤◌, ◌<◌, Bool, true, false, not, ◌&&◌, ◌||◌, ◌==◌, nat_lt, if◌then◌else◌, [], ◌∷◌, length, replicate, refl, sym, ap, ◌∙◌, subst, Some, None, Option, option_map, IsSome, IsTrue, arith}
 use Rattle.std.specs.List.{list_all}
 use Rattle.std.specs.declared.cmp.Ordering.{Ordering}
 use Rattle.std.specs.declared.cmp.Ordering.TheVariants.{Less, Equal, Greater}
@@ -9,10 +9,9 @@ use Rattle.std.proofs.lemmas.Cmp.{tied_itself, nat_list_cmp_total, ranked}
 use Rattle.cell_world.specs.Texts.{Text, is_name, is_letter, is_digit, is_name_byte}
 use Rattle.cell_world.specs.ByteOrder.{byte_cmp}
 use Rattle.cell_world.specs.Keys.{below, at_most}
-use Rattle.cell_world.specs.Orders.{row_cmp}
-use Rattle.cell_world.specs.Finding.{cell_cmp, kind_number, map_of, IsNextKey, IsRowKey}
+use Rattle.cell_world.specs.Finding.{cell_cmp, kind_number, IsNextKey, IsRowKey}
 use Rattle.cell_world.specs.Spelled.{IsRowName}
-use Rattle.cell_world.specs.Stores.{Store, Rows, IsStore, own_key, cell_at, Stands}
+use Rattle.cell_world.specs.Stores.{Store, IsStore, own_key, Stands}
 use Rattle.cell_world.specs.declared.cells.RowName.{RowName}
 use Rattle.cell_world.specs.declared.cells.Cell.{Cell}
 use Rattle.cell_world.specs.declared.cells.Cell.TheVariants as cell

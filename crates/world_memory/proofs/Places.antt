@@ -1,13 +1,12 @@
 -- The stores of what is told are the stores of what is kept.
-use Rattle.std.proofs.Common.{◌≡◌, ℕ, suc, zero, ◌+◌, ◌-◌, ◌≤◌, ◌<◌, ◌==◌, Bool, true, false, if◌then◌else◌, List, [], ◌∷◌, ◌++◌, length, take, drop, get_or, refl, sym, ap, ◌∙◌, subst, Some, None, Option, option_map, unwrap_or, arith, IsSome}
+use Rattle.std.proofs.Common.{◌≡◌, ℕ, suc, zero, ◌-◌, ◌==◌, Bool, true, false, if◌then◌else◌, List, [], ◌∷◌, refl, sym, ap, ◌∙◌, subst, Some, None, Option, option_map, unwrap_or, arith}
 use Rattle.std.specs.List.{slice_get, IsDistinct, AllByRecursion}
 use Rattle.std.proofs.lemmas.Bool.{eqb-true}
 use Rattle.cell_world.specs.Texts.{Text}
 use Rattle.cell_world.specs.Keys.{same}
-use Rattle.cell_world.specs.Stores.{Store, changed}
+use Rattle.cell_world.specs.Stores.{changed}
 use Rattle.cell_world.specs.Images.{Image, Place, Global, Shard, Committed, Wrote, Reopened, same_place, after_one}
 use Rattle.cell_world.specs.Outside.{place_at}
-use Rattle.cell_world.specs.declared.changes.Edit.{Edit}
 use Rattle.cell_world.proofs.ImageLaws.{same_place_self, same_place_is}
 use Rattle.cell_world.proofs.SpanLaws.{same_self}
 use Rattle.world_memory.specs.declared.contents.Happened.{Happened}

@@ -1,11 +1,11 @@
 -- A scan, cell by cell.
-use Rattle.std.proofs.Common.{◌≡◌, ℕ, ◌+◌, ◌≤◌, ◌<◌, Bool, true, false, List, [], ◌∷◌, ◌++◌, length, refl, sym, ap, ◌∙◌, subst, Some, None, Option, arith, ◌⊎◌, inl, inr, ⊎_elim, length-append}
+use Rattle.std.proofs.Common.{◌≡◌, ℕ, ◌≤◌, ◌<◌, Bool, true, false, List, [], ◌∷◌, ◌++◌, length, refl, sym, ap, ◌∙◌, subst, Some, None, arith, ◌⊎◌, inl, inr, ⊎_elim, length-append}
 use Rattle.std.specs.declared.cmp.Ordering.{Ordering}
 use Rattle.std.specs.declared.cmp.Ordering.TheVariants.{Less, Equal, Greater}
 use Rattle.std.specs.Ordering.{is_lt, is_gt}
 use Rattle.std.specs.Cmp.{IsTotalOrder}
 use Rattle.std.proofs.lemmas.Cmp.{upto, tied_itself}
-use Rattle.cell_world.specs.Lists.{SomeOf, IsOneOf}
+use Rattle.cell_world.specs.Lists.{IsOneOf}
 use Rattle.cell_world.specs.Finding.{cell_cmp, kind_number, Rises, IsScan, IsFromOn}
 use Rattle.cell_world.specs.Stores.{Store, own_key, cell_at, Stands}
 use Rattle.cell_world.specs.declared.cells.Cell.{Cell}

@@ -1,9 +1,9 @@
 -- The trail of what is kept.
-use Rattle.std.proofs.Common.{◌≡◌, ℕ, suc, zero, ◌+◌, ◌≤◌, ◌<◌, List, [], ◌∷◌, ◌++◌, length, take, drop, get_or, refl, sym, ap, ◌∙◌, arith, true, Option, Some, None, option_map, unwrap_or, append_assoc, length-drop, length-append}
+use Rattle.std.proofs.Common.{◌≡◌, ℕ, suc, zero, ◌+◌, ◌≤◌, ◌<◌, List, [], ◌∷◌, ◌++◌, length, take, drop, get_or, refl, sym, ap, ◌∙◌, arith, true, Option, Some, None, option_map, unwrap_or, append_assoc, length-drop}
 use Rattle.std.proofs.Math.ListN.{drop_of_length-le}
 use Rattle.std.proofs.lemmas.List.{take_more, length-take, take_all, take-append-le, drop-append-le, take-append-drop}
 use Rattle.cell_world.specs.Texts.{Text}
-use Rattle.cell_world.specs.Images.{Image, Place, Happening, Committed, Wrote, Reopened, Trail, after_one, after_all, empty_image, image_at, end_of_trail, extended, written}
+use Rattle.cell_world.specs.Images.{Image, Place, Happening, Committed, Wrote, Reopened, after_one, after_all, empty_image, image_at, end_of_trail, extended, written}
 use Rattle.cell_world.specs.Outside.{place_at}
 use Rattle.cell_world.specs.declared.cells.Site.{Site}
 use Rattle.world_memory.specs.declared.contents.Happened.{Happened}

@@ -5,10 +5,9 @@ use Rattle.std.proofs.Common.{◌∙◌, zero-le}
 use Rattle.cell_world.specs.Texts.{Text, is_location}
 use Rattle.cell_world.specs.Keys.{same}
 use Rattle.cell_world.specs.Counts.{last_count}
-use Rattle.cell_world.specs.Stores.{Store, IsStore, changed, empty_store}
+use Rattle.cell_world.specs.Stores.{Store, IsStore}
 use Rattle.cell_world.specs.Images.{Image, Place, Committed, Wrote, Reopened, IsImage, same_place, after_one, after_all, empty_image}
-use Rattle.cell_world.specs.Outside.{Outside, IsWorld, place_at}
-use Rattle.cell_world.specs.declared.changes.Edit.{Edit}
+use Rattle.cell_world.specs.Outside.{IsWorld, place_at}
 use Rattle.cell_world.proofs.KeyedLaws.{store_empty, store_edits}
 use Rattle.world_memory.specs.declared.contents.Happened.{Happened}
 use Rattle.world_memory.specs.declared.contents.Happened.TheVariants as kept

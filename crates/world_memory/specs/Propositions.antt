@@ -1,7 +1,7 @@
 -- That a change is one is a proposition.
-use Rattle.std.specs.Prelude.{ℕ, ◌<◌, Option, Some, None, IfSome, List, [], ◌∷◌}
+use Rattle.std.specs.Prelude.{Option, Some, None, IfSome, List, [], ◌∷◌}
 use Rattle.std.proofs.Props.{props}
-use Rattle.cell_world.specs.Spelled.{IsEnd, IsSpan, IsToken, IsPiece, ArePieces, IsPhase, IsJob, IsExtra, IsOp, IsMarkValue, IsLocalRow, AreCounters, IsRowName, IsTyped, IsCell, IsTypedKey, IsEdit, AreEdits}
+use Rattle.cell_world.specs.Spelled.{IsEnd, IsSpan, IsToken, IsPiece, ArePieces, IsPhase, IsJob, IsExtra, IsOp, IsMarkValue, IsLocalRow, IsTyped, IsCell, IsTypedKey, IsEdit, AreEdits}
 use Rattle.cell_world.specs.declared.spans.High.{High}
 use Rattle.cell_world.specs.declared.spans.High.TheVariants.{At, Max}
 use Rattle.cell_world.specs.declared.spans.Span.{Span}

@@ -1,7 +1,7 @@
 -- What a world in memory tells: its trail, made of what it keeps.
-use Rattle.std.specs.Prelude.{ℕ, List, [], ◌∷◌, ◌++◌, true, Option, option_map, unwrap_or, take, drop}
+use Rattle.std.specs.Prelude.{ℕ, List, [], ◌∷◌, ◌++◌, true, option_map, unwrap_or, take, drop}
 use Rattle.cell_world.specs.Texts.{Text}
-use Rattle.cell_world.specs.Images.{Image, Place, Happening, Committed, Wrote, Reopened, Trail, after_one, after_all, empty_image}
+use Rattle.cell_world.specs.Images.{Image, Place, Happening, Committed, Wrote, Reopened, Trail, after_one, empty_image}
 use Rattle.cell_world.specs.Outside.{Outside, TellsTrail, place_at}
 use Rattle.cell_world.specs.declared.cells.Site.{Site}
 use Rattle.world_memory.specs.declared.contents.Happened.{Happened}

@@ -1,12 +1,10 @@
-use Rattle.std.proofs.Common.{◌≡◌, ◌↔◌, Bool, true, false, not, Option, Some, None, IsTrue, sym, ap, ◌∙◌, subst, rules}
+use Rattle.std.proofs.Common.{◌≡◌, ◌↔◌, Bool, true, false, not, IsTrue, sym, ap, ◌∙◌, subst, rules}
 use Rattle.std.specs.Option.{option_copied}
 use Rattle.cell_world.specs.Texts.{Text}
 use Rattle.cell_world.specs.ByteOrder.{byte_eq}
-use Rattle.cell_world.specs.Stores.{Store, IsStore}
-use Rattle.cell_world.specs.declared.cells.Cell.{Cell}
 use Rattle.cell_world.specs.declared.cells.CellKey.TheVariants as at
 use Rattle.cell_world.specs.declared.cells.RowName.{RowName}
-use Rattle.world_memory.specs.First.{IsFirst, beside}
+use Rattle.world_memory.specs.First.{IsFirst}
 use Rattle.world_memory.proofs.NextKey.{none_next, other_next, is_next}
 use Rattle.world_memory.proofs.find.next_key.Goals as goal
 

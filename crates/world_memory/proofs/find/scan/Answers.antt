@@ -1,5 +1,5 @@
-use Rattle.std.proofs.Common.{◌≡◌, ◌++◌, ◌∷◌, [], ◌<◌, length, arith, ap, sym, ◌∙◌, subst, true}
-use Rattle.world_memory.proofs.Scanned.{IsScanning, scan_begins, scan_more, scan_ends, scan_full}
+use Rattle.std.proofs.Common.{◌≡◌, ◌++◌, ◌∷◌, [], arith, sym, subst, true}
+use Rattle.world_memory.proofs.Scanned.{IsScanning, scan_begins, scan_more, scan_full}
 use Rattle.world_memory.proofs.find.scan.Goals as goal
 
 pub loop-alloc-init : goal.loop-alloc-init

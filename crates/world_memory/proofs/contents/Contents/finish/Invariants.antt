@@ -1,4 +1,4 @@
-use Rattle.std.proofs.Common.{length, ◌-◌, ◌≡◌, ◌≤◌, ◌==◌, ℕ, List, [], take, if◌then◌else◌}
+use Rattle.std.proofs.Common.{length, ◌-◌, ◌≡◌, ◌≤◌, ◌==◌, ℕ, [], take, if◌then◌else◌}
 use Rattle.cell_world.specs.Stores.{Store, changed}
 use Rattle.world_memory.specs.Kept.{Holds}
 use Rattle.world_memory.proofs.contents.Contents.finish.Given as goal

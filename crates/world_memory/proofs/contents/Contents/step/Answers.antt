@@ -1,4 +1,4 @@
-use Rattle.std.proofs.Common.{◌+◌, sym, ap, subst}
+use Rattle.std.proofs.Common.{◌+◌, sym, subst}
 use Rattle.world_memory.specs.declared.contents.Contents.{Contents}
 use Rattle.world_memory.specs.Kept.{IsAt}
 use Rattle.world_memory.proofs.Following.{part_made, all_made, no_edits, not_commit}

@@ -3,7 +3,6 @@ use Rattle.std.specs.List.{AllByRecursion, IsDistinct}
 use Rattle.std.proofs.lemmas.List.{length-take-le}
 use Rattle.cell_world.specs.Keys.{same}
 use Rattle.cell_world.specs.Texts.{Text, is_location}
-use Rattle.world_memory.specs.declared.contents.Happened.{Happened}
 use Rattle.world_memory.specs.Kept.{IsKept}
 use Rattle.world_memory.specs.Told.{tells, trail_from}
 use Rattle.world_memory.proofs.Trails.{moments, crash, kept_take}

@@ -1,4 +1,4 @@
-use Rattle.std.proofs.Common.{◌≡◌, ◌++◌, ◌∷◌, [], arith, sym, ap, ◌∙◌, subst, Some, true, refl}
+use Rattle.std.proofs.Common.{sym, subst, true}
 use Rattle.std.specs.Result.{is_ok}
 use Rattle.world_memory.specs.declared.contents.Happened.TheVariants as kept
 use Rattle.cell_world.specs.Spelled.{AreEdits}

@@ -1,4 +1,3 @@
-use Rattle.std.proofs.Common.{◌≡◌, ◌++◌, ◌∷◌, [], arith, sym, ap, ◌∙◌, subst, Some, true, refl}
 use Rattle.std.specs.Result.{is_ok}
 use Rattle.world_memory.specs.declared.contents.Happened.TheVariants as kept
 use Rattle.world_memory.proofs.Now.{kept_after, within_after, at_after, has_written, pushed}
