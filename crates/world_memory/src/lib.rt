@@ -5,4 +5,6 @@ mod contents;
 mod copies;
 mod find;
 pub mod source;
+#[cfg(test)]
+mod tests;
 pub mod world;
