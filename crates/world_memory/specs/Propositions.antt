@@ -1,7 +1,8 @@
 -- That a change is one is a proposition.
-use Rattle.std.specs.Prelude.{Option, Some, None, IfSome, List, [], ◌∷◌}
-use Rattle.std.proofs.Props.{props}
-use Rattle.cell_world.specs.Spelled.{IsEnd, IsSpan, IsToken, IsPiece, ArePieces, IsPhase, IsJob, IsExtra, IsOp, IsMarkValue, IsLocalRow, IsTyped, IsCell, IsTypedKey, IsEdit, AreEdits}
+use Rattle.std.specs.Prelude.{ℕ, ◌<◌, Bool, true, Option, Some, None, IfSome, IsTrue, List, [], ◌∷◌}
+use Rattle.std.proofs.Math.Bool.{Bool-set}
+use Rattle.std.proofs.Math.Bridge.{le_prop}
+use Rattle.cell_world.specs.Spelled.{IsEnd, IsSpan, IsToken, IsPiece, ArePieces, IsPhase, IsJob, IsExtra, IsOp, IsMarkValue, IsLocalRow, AreCounters, IsRowName, IsTyped, IsCell, IsTypedKey, IsEdit, AreEdits}
 use Rattle.cell_world.specs.declared.spans.High.{High}
 use Rattle.cell_world.specs.declared.spans.High.TheVariants.{At, Max}
 use Rattle.cell_world.specs.declared.spans.Span.{Span}
@@ -18,6 +19,8 @@ use Rattle.cell_world.specs.declared.operations.Extra.{Extra}
 use Rattle.cell_world.specs.declared.operations.Extra.TheVariants as extra
 use Rattle.cell_world.specs.declared.operations.Op.{Op}
 use Rattle.cell_world.specs.declared.cells.LocalRow.{LocalRow}
+use Rattle.cell_world.specs.declared.cells.Counters.{Counters}
+use Rattle.cell_world.specs.declared.cells.RowName.{RowName}
 use Rattle.cell_world.specs.declared.cells.Cell.{Cell}
 use Rattle.cell_world.specs.declared.cells.Cell.TheVariants as cell
 use Rattle.cell_world.specs.declared.cells.CellKey.{CellKey}
@@ -25,83 +28,124 @@ use Rattle.cell_world.specs.declared.cells.CellKey.TheVariants as at
 use Rattle.cell_world.specs.declared.changes.Edit.{Edit}
 use Rattle.cell_world.specs.declared.changes.Edit.TheVariants.{Put, Delete}
 
+-- ---- facts that have at most one proof
+
+pub holds : (b : Bool) → IsProp (IsTrue b)
+holds b = Bool-set b true
+
+less : (n m : ℕ) → IsProp (n < m)
+less n m = le_prop
+
+none : IsProp (Unit {0})
+none = λ a b i. a
+
+both : {A B : Type 0} → IsProp A → IsProp B → IsProp (A × B)
+both f g = λ a b i. (f a.0 b.0 i, g a.1 b.1 i)
+
+-- ---- values of the program's types
+
 end : (h : High) → IsProp (IsEnd h)
-end (At key) = hlevel props
-end Max = hlevel props
+end (At key) = holds _
+end Max = none
 
 span : (s : Span) → IsProp (IsSpan s)
-span (Range low high) = hlevel (props, end high)
-span (Point key) = hlevel props
+span (Range low high) = both (holds _) (end high)
+span (Point key) = holds _
 
 token : (t : Option Token) → IsProp (IfSome t IsToken)
-token None = hlevel props
-token (Some t) = hlevel props
+token None = none
+token (Some t) = less _ _
 
 piece : (p : Piece) → IsProp (IsPiece p)
-piece p = hlevel (props, span p.span, token p.token)
+piece p = λ a b i. record { map = holds _ a.map b.map i; span = span p.span a.span b.span i; location = holds _ a.location b.location i; token = token p.token a.token b.token i }
 
 one_piece : (p : Option Piece) → IsProp (IfSome p IsPiece)
-one_piece None = hlevel props
+one_piece None = none
 one_piece (Some p) = piece p
 
 pieces : (p : Pieces) → IsProp (ArePieces p)
-pieces p = hlevel (props, one_piece p.one, one_piece p.two)
+pieces p = both (one_piece p.one) (one_piece p.two)
 
 some_phase : (p : Phase) → IsProp (IsPhase p)
-some_phase phase.Idle = hlevel props
+some_phase phase.Idle = none
 some_phase (phase.Copying h) = end h
 some_phase (phase.Moved h) = end h
 
 job : (j : JobRow) → IsProp (IsJob j)
-job j = hlevel (props, end j.high, end j.cursor, some_phase j.phase)
+job j = λ a b i. record {
+  number = less _ _ a.number b.number i;
+  map = holds _ a.map b.map i;
+  low = holds _ a.low b.low i;
+  high = end j.high a.high b.high i;
+  source = holds _ a.source b.source i;
+  target = holds _ a.target b.target i;
+  batch = less _ _ a.batch b.batch i;
+  cursor = end j.cursor a.cursor b.cursor i;
+  phase = some_phase j.phase a.phase b.phase i;
+}
 
 some_extra : (x : Extra) → IsProp (IsExtra x)
-some_extra extra.None = hlevel props
+some_extra extra.None = none
 some_extra (extra.JobPut j) = job j
-some_extra (extra.JobDrop number) = hlevel props
+some_extra (extra.JobDrop number) = less _ _
 
 op : (o : Op) → IsProp (IsOp o)
-op o = hlevel (props, span o.hull, pieces o.olds, pieces o.news, some_extra o.extra)
+op o = λ a b i. record {
+  number = less _ _ a.number b.number i;
+  map = holds _ a.map b.map i;
+  hull = span o.hull a.hull b.hull i;
+  olds = pieces o.olds a.olds b.olds i;
+  news = pieces o.news a.news b.news i;
+  extra = some_extra o.extra a.extra b.extra i;
+}
 
 some_mark : (m : Mark) → IsProp (IsMarkValue m)
-some_mark mark.Plain = hlevel props
-some_mark (mark.Old number) = hlevel props
-some_mark mark.New = hlevel props
+some_mark mark.Plain = none
+some_mark (mark.Old number) = less _ _
+some_mark mark.New = none
 
 local_row : (r : LocalRow) → IsProp (IsLocalRow r)
-local_row r = hlevel (props, span r.span, some_mark r.mark)
+local_row r = λ a b i. record { map = holds _ a.map b.map i; span = span r.span a.span b.span i; number = less _ _ a.number b.number i; mark = some_mark r.mark a.mark b.mark i }
+
+counters : (c : Counters) → IsProp (AreCounters c)
+counters c = λ a b i. record { operation = less _ _ a.operation b.operation i; job = less _ _ a.job b.job i }
+
+row_name : (r : RowName) → IsProp (IsRowName r)
+row_name r = λ a b i. record { map = holds _ a.map b.map i; key = holds _ a.key b.key i; table = holds _ a.table b.table i; number = less _ _ a.number b.number i }
+
+-- ---- cells, keys and edits
 
 typed : (c : Cell) → IsProp (IsTyped c)
-typed (cell.Map name kind type) = hlevel props
-typed (cell.Shard name location) = hlevel props
-typed (cell.Table name table) = hlevel props
+typed (cell.Map name kind type) = holds _
+typed (cell.Shard name location) = both (holds _) (holds _)
+typed (cell.Table name table) = both (holds _) (holds _)
 typed (cell.Piece p) = piece p
 typed (cell.Log o) = op o
 typed (cell.Job j) = job j
-typed (cell.Counter counters) = hlevel props
-typed (cell.SiteState location state) = hlevel props
+typed (cell.Counter c) = counters c
+typed (cell.SiteState location state) = holds _
 typed (cell.Local row) = local_row row
-typed (cell.Row row bytes) = hlevel props
+typed (cell.Row row bytes) = both (row_name row) (holds _)
 
 is_cell : (c : Cell) → IsProp (IsCell c)
-is_cell c = hlevel (props, typed c)
+is_cell c = λ a b i. record { typed = typed c a.typed b.typed i; spelled = holds _ a.spelled b.spelled i }
 
 typed_key : (k : CellKey) → IsProp (IsTypedKey k)
-typed_key (at.Map name) = hlevel props
-typed_key (at.Shard name location) = hlevel props
-typed_key (at.Table name table) = hlevel props
-typed_key (at.Piece name low) = hlevel props
-typed_key (at.Log number) = hlevel props
-typed_key (at.Job number) = hlevel props
-typed_key at.Counter = hlevel props
-typed_key (at.SiteState location) = hlevel props
-typed_key (at.Local name low number) = hlevel props
-typed_key (at.Row row) = hlevel props
+typed_key (at.Map name) = holds _
+typed_key (at.Shard name location) = both (holds _) (holds _)
+typed_key (at.Table name table) = both (holds _) (holds _)
+typed_key (at.Piece name low) = both (holds _) (holds _)
+typed_key (at.Log number) = less _ _
+typed_key (at.Job number) = less _ _
+typed_key at.Counter = none
+typed_key (at.SiteState location) = holds _
+typed_key (at.Local name low number) = λ a b i. (holds _ a.0 b.0 i, holds _ a.1 b.1 i, less _ _ a.2 b.2 i)
+typed_key (at.Row row) = row_name row
 
 some_edit : (e : Edit) → IsProp (IsEdit e)
 some_edit (Put c) = is_cell c
 some_edit (Delete k) = typed_key k
 
 pub change : (edits : List Edit) → IsProp (AreEdits edits)
-change [] = hlevel props
-change (e ∷ es) = hlevel (props, some_edit e, change es)
+change [] = none
+change (e ∷ es) = both (some_edit e) (change es)

@@ -21,6 +21,9 @@ use cell_world::outside::{World, WorldError};
 use std::alloc::Global;
 
 /// Stores and output in memory. No call fails but for want of memory, and the whole trail is told.
+///
+/// What happened is kept in a list, and a call that changes something only adds to it. A table of cells follows the
+/// list before it is read: once after each commit, so that a read costs what a sorted map costs.
 #[derive(Drop)]
 pub struct MemoryWorld {
     locations: Vec<Location>,
@@ -108,6 +111,7 @@ impl MemoryWorld {
     }
 
     /// The world that a crash at a moment leaves: its stores are as they were then, and nothing happened yet.
+    /// It copies what happened up to then, and makes its table at its first read.
     pub fn crashed(&self, alloc: Global, moment: u64) -> Result<MemoryWorld, Memory>
         requires { IfTrail (outside_of self.now).told (λ trail. moment ≤ end_of_trail trail) }
         ensures { IfOk result (λ world. IfTrail (outside_of self.now).told (λ trail. outside_of world ≡ fresh (outside_of self.now).locations (image_at trail moment))) }
