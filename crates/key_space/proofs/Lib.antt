@@ -1,8 +1,11 @@
 pub mod BytesTexts
+pub mod DecimalPrinting
 pub mod DecimalTexts
 pub mod DecimalValues
 pub mod GuidTexts
 pub mod GuidValues
 pub mod HexDigits
+pub mod HexPrinting
 pub mod KeyForms
+pub mod Readings
 pub mod Zeros

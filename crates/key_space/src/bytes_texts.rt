@@ -1,14 +1,12 @@
 //! The texts of bytes keys: `0x` and two hexadecimal digits a byte.
 ghost use Rattle.std.specs.Prelude.{◌≡◌, ◌≤◌, ◌<◌, ◌^◌, length, take, IsTrue, IfOk, IfErr, OnOk, Some, is_some};
 ghost use Rattle.cell_world.specs.KeyForms.{hex_bytes, without_zeros, normal_of};
-ghost use Rattle.cell_world.specs.KeyPrinting.{bytes_text};
 ghost use Rattle.cell_world.specs.declared.cells.KeyType.TheVariants as types;
 ghost use Rattle.key_space.specs.Texts.{written_bytes, IsAtPlace, IsKeyFault};
 
 use crate::faults::{KeyFault, in_grammar};
 use crate::hex_digits::is_hex;
 use crate::values::{KeyBytes, norm};
-use std::alloc::{AllocError, Global};
 use text_scan::machine::Machine;
 
 /// The most bytes of a bytes key, as written.

@@ -1,5 +1,6 @@
 //! Decimal texts: int, long, timespan and datetime keys.
-ghost use Rattle.std.specs.Prelude.{◌≡◌, ℕ, ◌≤◌, ◌<◌, ◌^◌, length, IsTrue, IfSome, IfNone, IfErr, OnOk, Some, None, is_some};
+ghost use Rattle.std.specs.Prelude.{◌≡◌, ℕ, ◌≤◌, ◌<◌, ◌^◌, length, IsTrue, IfSome, IfNone, IfErr, OnOk, Some, None, is_some, FitsSigned};
+ghost use Rattle.std.specs.Int.{w32, w64};
 ghost use Rattle.cell_world.specs.Texts.{is_digit};
 ghost use Rattle.cell_world.specs.KeyForms.{number_of, signed_number};
 ghost use Rattle.key_space.specs.Values.{moved_up};
@@ -145,6 +146,7 @@ pub(crate) fn int_at(text: &[u8]) -> Option<i32>
     requires { IsTrue (is_signed_text text.now) }
     ensures some { IfSome result (λ x. signed_number (2 ^ 31) text.now ≡ Some (moved_up (2 ^ 31) x)) }
     ensures none { IfNone result (signed_number (2 ^ 31) text.now ≡ None) }
+    ensures fits { IfSome result (FitsSigned w32) }
 {
     let digits = std::str::from_utf8(text).unwrap();
     match digits.parse::<i32>() {
@@ -158,6 +160,7 @@ pub(crate) fn long_at(text: &[u8]) -> Option<i64>
     requires { IsTrue (is_signed_text text.now) }
     ensures some { IfSome result (λ x. signed_number (2 ^ 63) text.now ≡ Some (moved_up (2 ^ 63) x)) }
     ensures none { IfNone result (signed_number (2 ^ 63) text.now ≡ None) }
+    ensures fits { IfSome result (FitsSigned w64) }
 {
     let digits = std::str::from_utf8(text).unwrap();
     match digits.parse::<i64>() {

@@ -1,15 +1,12 @@
 //! The texts of guids: 8, 4, 4, 4 and 12 hexadecimal digits with `-` between.
 ghost use Rattle.std.specs.Prelude.{◌≡◌, ◌<◌, ◌^◌, length, IsTrue, IfOk, IfErr, OnOk, Some, is_some};
-ghost use Rattle.cell_world.specs.KeyForms.{guid_bytes, normal_of};
-ghost use Rattle.cell_world.specs.KeyPrinting.{guid_text};
-ghost use Rattle.cell_world.specs.declared.cells.KeyType.TheVariants as types;
-ghost use Rattle.key_space.specs.Texts.{IsAtPlace, IsKeyFault};
+ghost use Rattle.cell_world.specs.KeyForms.{guid_bytes};
+ghost use Rattle.key_space.specs.Texts.{IsAtPlace};
 ghost use Rattle.key_space.specs.HexTexts.{fits_left};
 
 use crate::faults::{KeyFault, in_grammar};
 use crate::hex_digits::is_hex;
 use crate::values::Guid;
-use std::alloc::{AllocError, Global};
 use text_scan::machine::Machine;
 use uuid::Uuid;
 

@@ -8,4 +8,6 @@ mod guid_texts;
 mod hex_digits;
 pub mod keys;
 mod numbers;
+pub mod reading;
 pub mod values;
+pub mod writing;
