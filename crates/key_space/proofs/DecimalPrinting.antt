@@ -15,10 +15,6 @@ use Rattle.key_space.proofs.DecimalValues.{Within, read_number}
 digit_glyph : (d : ℕ) → d < 10 → is_digit (48 + d) ≡ true
 digit_glyph d lt = grind (arith, nat_tests)
 
-value_of : Option ℕ → ℕ
-unfolding value_of
-value_of o = unwrap_or o 0
-
 -- one digit more
 digits_push : (n : ℕ) (ds : Text) (m d : ℕ) → digits_from n ds ≡ Some m → d < 10 → digits_from n (ds ++ (48 + d) ∷ []) ≡ Some (10 * m + d)
 digits_push n [] m d h lt =

@@ -7,5 +7,6 @@ pub mod GuidValues
 pub mod HexDigits
 pub mod HexPrinting
 pub mod KeyForms
+pub mod Printed
 pub mod Readings
 pub mod Zeros
