@@ -1,15 +1,15 @@
 -- The state machine of bytes keys accepts just their texts, and what is behind `0x` is pairs of digits.
-use Rattle.std.proofs.Common.{◌≡◌, ℕ, ◌+◌, ◌*◌, ◌/◌, ◌%◌, ◌<◌, ◌≤◌, Bool, true, false, ◌==◌, List, [], ◌∷◌, length, drop, Option, Some, None, Ok, true≢false, refl, sym, ap, ◌∙◌, inl, inr, arith, if◌then◌else◌}
-use Rattle.std.specs.Prelude.{is_some, option_map, option_and_then}
+use Rattle.std.proofs.Common.{◌≡◌, ℕ, ◌+◌, ◌*◌, ◌/◌, ◌%◌, ◌≤◌, Bool, true, false, ◌==◌, [], ◌∷◌, length, drop, Some, None, Ok, true≢false, refl, sym, ◌∙◌, inl, inr, arith}
+use Rattle.std.specs.Prelude.{is_some}
 use Rattle.std.proofs.lemmas.Bool.{cases_Bool, ne_eqb, eq-eqb}
 use Rattle.text_scan.specs.Walks.{accepts}
 use Rattle.text_scan.proofs.Walks.{accepts-None}
 use Rattle.cell_world.specs.Texts.{Text}
-use Rattle.cell_world.specs.KeyForms.{hex_digit, hex_byte, hex_bytes, after_0x}
+use Rattle.cell_world.specs.KeyForms.{hex_digit, hex_bytes}
 use Rattle.key_space.specs.Texts.{written_bytes}
-use Rattle.key_space.specs.HexTexts.{is_hex, bytes_next, bytes_end}
+use Rattle.key_space.specs.HexTexts.{bytes_next, bytes_end}
 use Rattle.key_space.specs.declared.bytes_texts.BytesAt.{BytesAt}
-use Rattle.key_space.specs.declared.bytes_texts.BytesAt.TheVariants.{Start, Zero, Even, Odd}
+use Rattle.key_space.specs.declared.bytes_texts.BytesAt.TheVariants.{Start, Even}
 use Rattle.hex.specs.Hex.{decode_sized}
 use Rattle.key_space.proofs.HexDigits.{cases_option, some_mapped, pairs_of}
 

@@ -1,11 +1,11 @@
 -- What parse gives for a decimal text is its number.
-use Rattle.std.proofs.Common.{◌≡◌, ◌≢◌, ℕ, zero, suc, ◌+◌, ◌-◌, ◌*◌, ◌<◌, ◌≤◌, ◌^◌, Bool, true, false, ◌==◌, ◌&&◌, List, [], ◌∷◌, length, get_or, Option, Some, None, Result, Ok, Err, IsOk, true≢false, refl, sym, ap, subst, ◌∙◌, inl, inr, arith, if◌then◌else◌, cond, unwrap_or, ℤ, pos, neg_ℤ}
+use Rattle.std.proofs.Common.{◌≡◌, ℕ, zero, suc, ◌+◌, ◌-◌, ◌*◌, ◌<◌, ◌≤◌, ◌^◌, true, false, ◌==◌, ◌&&◌, [], ◌∷◌, get_or, Option, Some, None, Result, Ok, Err, IsOk, true≢false, refl, sym, ap, subst, inl, inr, arith, if◌then◌else◌, unwrap_or, ℤ, pos, neg_ℤ}
 use Rattle.std.specs.Prelude.{negsuc, is_some, nat_lt, nat_le, MatchResult, FitsSigned}
 use Rattle.std.specs.Int.{w32, w64}
 use Rattle.std.specs.Str.{IsUtf8}
 use Rattle.std.specs.Str.Parse.{IsNumeral, AllDigits, digits_value, digits_value_after, signed_digits_value, without_leading_sign, without_leading_plus}
 use Rattle.std.specs.Char.{digit_value}
-use Rattle.std.proofs.lemmas.Bool.{cases_Bool, eqb-true, eqb-false, eq-eqb, ne_eqb, lt-ltb, le-ltb, le-leb, lt-leb, ltb-true, cases_lt}
+use Rattle.std.proofs.lemmas.Bool.{cases_Bool, eqb-true, ne_eqb, lt-ltb, le-ltb, le-leb, lt-leb, ltb-true, cases_lt}
 use Rattle.std.proofs.lemmas.Str.{IsUtf8-from_ascii, digit_value_digit}
 use Rattle.std.proofs.lemmas.Str.Ascii.{IsAscii-cons}
 use Rattle.std.proofs.lemmas.Fmt.{IsAscii-from_digits}

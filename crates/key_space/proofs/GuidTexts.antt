@@ -1,11 +1,11 @@
 -- The state machine of guids accepts just their texts.
-use Rattle.std.proofs.Common.{◌≡◌, ℕ, zero, suc, ◌+◌, ◌*◌, ◌<◌, ◌≤◌, Bool, true, false, ◌==◌, ◌||◌, List, [], ◌∷◌, ◌++◌, Option, Some, None, refl, sym, ap, subst, ◌∙◌, inl, inr, arith, if◌then◌else◌}
-use Rattle.std.specs.Prelude.{is_some, option_map, option_and_then}
+use Rattle.std.proofs.Common.{◌≡◌, ℕ, zero, suc, ◌+◌, ◌*◌, ◌<◌, Bool, true, false, ◌==◌, List, [], ◌∷◌, ◌++◌, Option, Some, None, refl, sym, ap, subst, ◌∙◌, inl, inr, arith}
+use Rattle.std.specs.Prelude.{is_some, option_map}
 use Rattle.std.proofs.lemmas.Bool.{cases_Bool, ne_eqb, agree_below_at}
 use Rattle.text_scan.specs.Walks.{accepts}
 use Rattle.text_scan.proofs.Walks.{accepts-None}
 use Rattle.cell_world.specs.Texts.{Text}
-use Rattle.cell_world.specs.KeyForms.{hex_digit, hex_byte, bytes_taken, after_dash, grouped_bytes, guid_bytes}
+use Rattle.cell_world.specs.KeyForms.{hex_digit, bytes_taken, after_dash, grouped_bytes, guid_bytes}
 use Rattle.key_space.specs.HexTexts.{is_dash_left, guid_next, guid_end}
 use Rattle.key_space.proofs.HexDigits.{cases_option, cases_list, some_mapped}
 

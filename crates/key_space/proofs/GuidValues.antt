@@ -1,12 +1,11 @@
 -- What uuid reads of a guid's text is the bytes of its digits.
-use Rattle.std.proofs.Common.{◌≡◌, ℕ, zero, suc, ◌+◌, ◌*◌, ◌<◌, ◌≤◌, Bool, true, false, ◌==◌, List, [], ◌∷◌, ◌++◌, length, get_or, Option, Some, None, unwrap_or, true≢false, refl, sym, ap, subst, ◌∙◌, inl, inr, arith, length-append, append_assoc, if◌then◌else◌}
-use Rattle.std.specs.Prelude.{is_some, option_map, option_and_then}
+use Rattle.std.proofs.Common.{◌≡◌, ℕ, zero, suc, ◌*◌, true, ◌==◌, List, [], ◌∷◌, ◌++◌, length, Option, Some, unwrap_or, refl, sym, ap, subst, ◌∙◌, inl, inr, arith, length-append}
 use Rattle.std.proofs.lemmas.Bool.{cases_Bool, eqb-true}
 use Rattle.std.proofs.lemmas.List.{append-nil, get_or_default}
 use Rattle.uuid.specs.Text.{by_index, parsed, digits_of, has_hyphens, byte_of_digits}
 use Rattle.uuid.proofs.TextLemmas.{by_index_same}
 use Rattle.cell_world.specs.Texts.{Text}
-use Rattle.cell_world.specs.KeyForms.{hex_digit, hex_byte, hex_bytes, bytes_taken, after_dash, grouped_bytes, guid_bytes}
+use Rattle.cell_world.specs.KeyForms.{hex_byte, hex_bytes, bytes_taken, after_dash, grouped_bytes, guid_bytes}
 use Rattle.key_space.proofs.HexDigits.{cases_option, cases_list, none_some, pairs_of, pairs_append}
 use Rattle.key_space.proofs.KeyForms.{listed, drop-listed}
 
@@ -143,8 +142,7 @@ five_long a b c d e h =
     let eb = h.b4 in
     let ec = h.c4 in
     let ed = h.d4 in
-    let ee = h.e12 in
-    (
+    let ee = h.e12 in (
       omega (arith, ea, eb, ec, ed, ee, length-append a (45 ∷ (b ++ 45 ∷ (c ++ 45 ∷ (d ++ 45 ∷ e)))), length-append b (45 ∷ (c ++ 45 ∷ (d ++ 45 ∷ e))), length-append c (45 ∷ (d ++ 45 ∷ e)), length-append d (45 ∷ e)),
       omega (arith, ea, eb, ec, ed, ee, length-append a (b ++ (c ++ (d ++ e))), length-append b (c ++ (d ++ e)), length-append c (d ++ e), length-append d e),
     )

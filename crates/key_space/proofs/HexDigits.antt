@@ -1,13 +1,13 @@
 -- Hexadecimal digits, in the words of this project and of the crates hex and uuid.
-use Rattle.std.proofs.Common.{◌≡◌, ◌⊎◌, ℕ, zero, suc, ◌+◌, ◌-◌, ◌*◌, ◌<◌, ◌≤◌, ◌/◌, ◌%◌, Bool, true, false, List, [], ◌∷◌, ◌++◌, length, get_or, Option, Some, None, Result, Ok, Err, unwrap_or, true≢false, refl, sym, ap, subst, ◌∙◌, inl, inr, arith, if◌then◌else◌}
-use Rattle.std.specs.Prelude.{is_some, option_map, option_and_then}
+use Rattle.std.proofs.Common.{◌≡◌, ◌⊎◌, ℕ, zero, suc, ◌+◌, ◌*◌, ◌<◌, true, [], ◌∷◌, ◌++◌, length, get_or, Option, Some, None, Ok, unwrap_or, true≢false, refl, sym, ap, subst, ◌∙◌, inl, inr, arith}
+use Rattle.std.specs.Prelude.{is_some, option_map}
 use Rattle.std.specs.Option.{IsSome, SomeIff}
 use Rattle.std.specs.List.{list_all}
 use Rattle.std.proofs.lemmas.Bool.Decides.{nat_tests}
 use Rattle.hex.specs.Hex.{hex_digit_value, decode_pairs}
 use Rattle.uuid.specs.Text.{is_hex_digit, value_of}
 use Rattle.cell_world.specs.Texts.{Text}
-use Rattle.cell_world.specs.KeyForms.{hex_digit, hex_byte, hex_bytes}
+use Rattle.cell_world.specs.KeyForms.{hex_digit, hex_bytes}
 
 pub cases_option : {A : Type 0} (o : Option A) → (o ≡ None) ⊎ ((x : A) × (o ≡ Some x))
 cases_option None = inl refl

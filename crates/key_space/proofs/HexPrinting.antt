@@ -1,7 +1,6 @@
 -- Printed bytes and printed guids are read as the same bytes, and they are what hex and uuid print.
-use Rattle.std.proofs.Common.{◌≡◌, ℕ, zero, suc, ◌+◌, ◌-◌, ◌*◌, ◌/◌, ◌%◌, ◌<◌, ◌≤◌, Bool, true, false, ◌==◌, List, [], ◌∷◌, ◌++◌, length, get_or, take, drop, Option, Some, None, refl, sym, ap, subst, ◌∙◌, inl, inr, arith, append_assoc, length-take, length-drop, if◌then◌else◌}
+use Rattle.std.proofs.Common.{◌≡◌, ℕ, zero, suc, ◌+◌, ◌*◌, ◌/◌, ◌%◌, ◌<◌, ◌≤◌, true, ◌==◌, List, [], ◌∷◌, ◌++◌, length, get_or, take, drop, Some, refl, sym, ap, ◌∙◌, arith, append_assoc, length-take, length-drop}
 use Rattle.std.specs.Prelude.{IsTrue, nat_lt, slice_index}
-use Rattle.std.specs.List.{list_all}
 use Rattle.std.proofs.lemmas.Bool.{and_parts, and_from, ltb-true, eqb-true, agree_below_at}
 use Rattle.std.proofs.lemmas.List.{append-nil}
 use Rattle.std.proofs.lemmas.Bool.Decides.{nat_tests}
@@ -66,7 +65,7 @@ bytes_drop zero xs h = h
 bytes_drop (suc n) [] h = refl
 bytes_drop (suc n) (b ∷ bs) h = bytes_drop n bs (and_parts (nat_lt b 256) (are_bytes bs) h).1
 
-byte_at : (xs : Text) → IsTrue (are_bytes xs) → (k : ℕ) → get_or xs k 0 < 256
+pub byte_at : (xs : Text) → IsTrue (are_bytes xs) → (k : ℕ) → get_or xs k 0 < 256
 byte_at [] h k = omega arith
 byte_at (b ∷ bs) h zero = (first_byte b bs h).0
 byte_at (b ∷ bs) h (suc k) = byte_at bs (first_byte b bs h).1 k

@@ -1,12 +1,11 @@
 -- Normal forms and their lists of bytes.
-use Rattle.std.proofs.Common.{◌≡◌, ℕ, zero, suc, ◌+◌, ◌-◌, ◌≤◌, List, [], ◌∷◌, length, get_or, drop, ◌==◌, Option, Some, refl, sym, ap, ◌∙◌, arith}
+use Rattle.std.proofs.Common.{◌≡◌, ℕ, zero, suc, ◌+◌, ◌-◌, ◌≤◌, List, [], ◌∷◌, length, get_or, drop, ◌==◌, Some, refl, sym, ap, ◌∙◌, arith}
 use Rattle.std.specs.Prelude.{slice_index}
 use Rattle.std.proofs.lemmas.List.{drop_more, drop_all}
 use Rattle.cell_world.specs.Texts.{Text}
 use Rattle.cell_world.specs.KeyForms.{last_is_zero, guid_form}
 use Rattle.cell_world.specs.KeyPrinting.{guid_unformed}
 use Rattle.cell_world.specs.declared.cells.KeyType.TheVariants as types
-use Rattle.key_space.specs.Guids.{IsGuid}
 use Rattle.key_space.specs.Values.{type_of, form_of, IsKey}
 use Rattle.key_space.specs.declared.keys.Key.{Key}
 use Rattle.key_space.specs.declared.keys.Key.TheVariants.{Int, Long, Guid, Bytes, Datetime, Timespan}

@@ -7,6 +7,8 @@ pub mod GuidValues
 pub mod HexDigits
 pub mod HexPrinting
 pub mod KeyForms
+pub mod OneKey
+pub mod Order
 pub mod Printed
 pub mod Readings
 pub mod Zeros

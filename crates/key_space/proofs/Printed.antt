@@ -1,13 +1,13 @@
 -- What is printed is the one text of the key, and it is read again as the same key.
-use Rattle.std.proofs.Common.{◌≡◌, ℕ, ◌*◌, ◌^◌, ◌<◌, ◌≤◌, ◌&&◌, List, [], ◌∷◌, length, Some, refl, sym, ap, subst, ◌∙◌, arith}
+use Rattle.std.proofs.Common.{◌≡◌, ◌^◌, ◌&&◌, length, Some, refl, sym, ap, ◌∙◌, arith}
 use Rattle.std.specs.Prelude.{IsTrue, nat_le, not, ℤ, FitsSigned}
 use Rattle.std.specs.Int.{w32, w64}
 use Rattle.std.specs.Fmt.{decimal, signed_decimal}
-use Rattle.std.proofs.lemmas.Bool.{and_parts, leb-true, not-true}
+use Rattle.std.proofs.lemmas.Bool.{and_parts, not-true}
 use Rattle.std.proofs.lemmas.Nat.{from_be_bytes-to_be_bytes_4, from_be_bytes-to_be_bytes_8}
 use Rattle.cell_world.specs.Texts.{Text, are_bytes}
-use Rattle.cell_world.specs.KeyForms.{signed_number, guid_form, last_is_zero, normal_of}
-use Rattle.cell_world.specs.KeyPrinting.{signed_text, guid_text, hex_text, key_text}
+use Rattle.cell_world.specs.KeyForms.{signed_number, last_is_zero, normal_of}
+use Rattle.cell_world.specs.KeyPrinting.{signed_text, guid_text, key_text}
 use Rattle.cell_world.specs.declared.cells.KeyType.TheVariants as types
 use Rattle.key_space.specs.Values.{type_of, form_of, moved_up, IsKey}
 use Rattle.key_space.specs.Printing.{printed_text}

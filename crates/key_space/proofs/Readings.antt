@@ -1,16 +1,16 @@
 -- What a text is to its type, by the number or the bytes that it writes; and each fault says that it is no key.
-use Rattle.std.proofs.Common.{◌≡◌, ◌↔◌, ◌⊎◌, ℕ, ◌^◌, ◌<◌, ◌≤◌, Bool, true, false, ◌==◌, ◌&&◌, List, [], ◌∷◌, length, Option, Some, None, Result, Ok, Err, IsOk, IfOk, true≢false, refl, sym, ap, subst, ◌∙◌, inl, inr, arith, if◌then◌else◌}
-use Rattle.std.specs.Prelude.{is_some, nat_lt, nat_le, IfErr, IsSome}
+use Rattle.std.proofs.Common.{◌≡◌, ◌↔◌, ℕ, ◌^◌, ◌<◌, ◌≤◌, true, ◌==◌, [], ◌∷◌, length, Some, None, Result, Ok, Err, IsOk, IfOk, true≢false, refl, sym, ap, subst, ◌∙◌, inl, inr}
+use Rattle.std.specs.Prelude.{is_some, nat_lt, IfErr, IsSome}
 use Rattle.std.specs.Int.{w32, w64, to_be_bytes}
 use Rattle.std.proofs.lemmas.Bool.{cases_Bool, cases_lt, le-leb, lt-leb}
 use Rattle.text_scan.specs.Places.{IsPlace}
-use Rattle.text_scan.proofs.Places.{no_text}
+use Rattle.text_scan.proofs.Places.{no_text, one_place}
 use Rattle.cell_world.specs.Texts.{Text}
 use Rattle.cell_world.specs.KeyForms.{number_of, signed_number, guid_bytes, guid_form, last_tick, normal_of}
 use Rattle.cell_world.specs.declared.cells.KeyType.{KeyType}
 use Rattle.cell_world.specs.declared.cells.KeyType.TheVariants.{Int, Long, Guid, Bytes, Datetime, Timespan}
 use Rattle.key_space.specs.Values.{type_of, form_of}
-use Rattle.key_space.specs.Texts.{is_signed_text, written_bytes, in_grammar, IsKeyFault}
+use Rattle.key_space.specs.Texts.{is_signed_text, written_bytes, in_grammar, IsNumber, IsKeyFault}
 use Rattle.key_space.specs.declared.keys.Key.{Key}
 use Rattle.key_space.specs.declared.faults.KeyFault.{KeyFault}
 use Rattle.key_space.specs.declared.faults.KeyFault.TheVariants.{NotInGrammar, OutOfRange, TooLong, Memory}
@@ -87,7 +87,7 @@ too_long : (text bytes : Text) → written_bytes text ≡ Some bytes → 128 < l
 unfolding normal_of
 too_long text bytes h long = rw (h, lt-leb (length bytes) 128 long) refl
 
-no_key : (type : KeyType) (text : Text) (fault : KeyFault) → IsKeyFault type text fault → normal_of type text ≡ None
+pub no_key : (type : KeyType) (text : Text) (fault : KeyFault) → IsKeyFault type text fault → normal_of type text ≡ None
 no_key type text (NotInGrammar place) is =
     elim (cases_option (normal_of type text)) [
       | inl none ↦ none
@@ -96,6 +96,26 @@ no_key type text (NotInGrammar place) is =
 no_key type text TooLong is = ap (λ t. normal_of t text) is.0 ∙ too_long text is.1.0 is.1.1 is.1.2
 no_key type text OutOfRange is = is.2
 no_key type text Memory is = absurd is
+
+-- a fault past the grammar is of a text in it
+in_it : (type : KeyType) (text : Text) (fault : KeyFault) (place : ℕ) → IsPlace (in_grammar type) text place → IsKeyFault type text fault → NotInGrammar place ≡ fault
+in_it type text (NotInGrammar other) place at is = ap NotInGrammar (one_place (in_grammar type) text place other at is)
+in_it type text TooLong place at is = absurd (no_text (in_grammar type) text place at (ap (λ t. in_grammar t text) is.0 ∙ ap is_some is.1.1))
+in_it type text OutOfRange place at is = absurd (no_text (in_grammar type) text place at is.1)
+in_it type text Memory place at is = absurd is
+
+not_both : (type : KeyType) → type ≡ Bytes → IsNumber type → ⊥
+not_both type e is = subst IsNumber e is
+
+pub one_fault : (type : KeyType) (text : Text) (e f : KeyFault) → IsKeyFault type text e → IsKeyFault type text f → e ≡ f
+one_fault type text (NotInGrammar place) f he hf = in_it type text f place he hf
+one_fault type text e (NotInGrammar place) he hf = sym (in_it type text e place hf he)
+one_fault type text TooLong TooLong he hf = refl
+one_fault type text OutOfRange OutOfRange he hf = refl
+one_fault type text TooLong OutOfRange he hf = absurd (not_both type he.0 hf.0)
+one_fault type text OutOfRange TooLong he hf = absurd (not_both type hf.0 he.0)
+one_fault type text Memory f he hf = absurd he
+one_fault type text e Memory he hf = absurd hf
 
 pub as_timespan : (text : Text) (fault : KeyFault) → IsKeyFault Long text fault → IsKeyFault Timespan text fault
 as_timespan text (NotInGrammar place) is = is

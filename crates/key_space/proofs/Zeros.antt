@@ -1,5 +1,5 @@
 -- Zeros at the end of a list of bytes.
-use Rattle.std.proofs.Common.{◌≡◌, ◌⊎◌, ℕ, zero, suc, ◌+◌, ◌-◌, ◌<◌, ◌≤◌, Bool, true, false, ◌==◌, List, [], ◌∷◌, ◌++◌, length, get_or, take, refl, sym, ap, subst, ◌∙◌, inl, inr, arith, length-take, if◌then◌else◌}
+use Rattle.std.proofs.Common.{◌≡◌, ◌⊎◌, ℕ, ◌+◌, ◌-◌, ◌<◌, ◌≤◌, false, ◌==◌, [], ◌∷◌, ◌++◌, length, get_or, take, refl, sym, ap, subst, ◌∙◌, inl, inr, arith, length-take}
 use Rattle.std.proofs.lemmas.Bool.{cases_Bool, ne_eqb, and_parts}
 use Rattle.std.proofs.lemmas.List.{take_more, get_or-take}
 use Rattle.std.specs.Prelude.{IsTrue, nat_le}

@@ -1,7 +1,7 @@
 -- The state machines of decimal texts.
 use Rattle.std.specs.Prelude.{ℕ, ◌==◌, Bool, true, false, List, [], ◌∷◌, Option, Some, None, if◌then◌else◌, IsTrue, refl}
 use Rattle.text_scan.specs.Walks.{accepts}
-use Rattle.cell_world.specs.Texts.{Text, is_digit}
+use Rattle.cell_world.specs.Texts.{is_digit}
 use Rattle.key_space.specs.declared.decimals.Signed.{Signed}
 use Rattle.key_space.specs.declared.decimals.Signed.TheVariants as s
 use Rattle.key_space.specs.declared.decimals.Unsigned.{Unsigned}

@@ -1,5 +1,5 @@
 -- The state machines of texts with hexadecimal digits: bytes keys and guids.
-use Rattle.std.specs.Prelude.{◌≡◌, ℕ, zero, suc, ◌-◌, ◌==◌, ◌||◌, Bool, true, false, List, [], ◌∷◌, Option, Some, None, is_some, if◌then◌else◌, IsTrue, refl}
+use Rattle.std.specs.Prelude.{◌≡◌, ℕ, zero, suc, ◌==◌, ◌||◌, Bool, true, false, List, [], ◌∷◌, Option, Some, None, is_some, if◌then◌else◌, IsTrue, refl}
 use Rattle.std.proofs.Common.{ap, ◌∙◌}
 use Rattle.text_scan.specs.Walks.{walk, at_end, accepts}
 use Rattle.cell_world.specs.KeyForms.{hex_digit}

@@ -1,5 +1,4 @@
 -- The text of a key by its value.
-use Rattle.std.specs.Prelude.{List}
 use Rattle.std.specs.Fmt.{decimal, signed_decimal}
 use Rattle.cell_world.specs.Texts.{Text}
 use Rattle.cell_world.specs.KeyPrinting.{guid_text, bytes_text}

@@ -1,5 +1,5 @@
 -- The texts of keys: the grammar of each type, and what is wrong with a text that is no key.
-use Rattle.std.specs.Prelude.{◌≡◌, ℕ, ◌<◌, ◌==◌, nat_lt, Bool, false, List, [], ◌∷◌, length, IsTrue, Option, Some, None, is_some, option_and_then, if◌then◌else◌}
+use Rattle.std.specs.Prelude.{◌≡◌, ℕ, ◌<◌, ◌==◌, nat_lt, Bool, false, [], ◌∷◌, length, IsTrue, Option, Some, None, is_some, option_and_then, if◌then◌else◌}
 use Rattle.text_scan.specs.Places.{IsPlace}
 use Rattle.cell_world.specs.Texts.{Text}
 use Rattle.cell_world.specs.KeyForms.{number_of, after_0x, hex_bytes, guid_bytes, normal_of}

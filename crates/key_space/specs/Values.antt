@@ -1,5 +1,5 @@
 -- What a key is: the values that it may have, its type, its normal form, and the order of values.
-use Rattle.std.specs.Prelude.{◌≡◌, ℕ, ◌+◌, ◌-◌, ◌^◌, ◌≤◌, suc, List, [], ◌∷◌, length, slice_index, IsTrue, ℤ, pos, negsuc, FitsSigned}
+use Rattle.std.specs.Prelude.{ℕ, ◌+◌, ◌-◌, ◌^◌, ◌≤◌, suc, List, [], ◌∷◌, slice_index, IsTrue, ℤ, pos, negsuc, FitsSigned}
 use Rattle.std.specs.Int.{w32, w64, to_be_bytes}
 use Rattle.std.specs.Ordering.{nat_cmp, ordering_then}
 use Rattle.std.specs.declared.cmp.Ordering.{Ordering}

@@ -39,10 +39,26 @@ impl Machine for BytesAt {
 
     fn step(self, byte: u8) -> Option<Self> {
         match self {
-            BytesAt::Start => if byte == b'0' { Some(BytesAt::Zero) } else { None },
-            BytesAt::Zero => if byte == b'x' { Some(BytesAt::Even) } else { None },
-            BytesAt::Even => if is_hex(byte) { Some(BytesAt::Odd) } else { None },
-            BytesAt::Odd => if is_hex(byte) { Some(BytesAt::Even) } else { None },
+            BytesAt::Start => if byte == b'0' {
+                Some(BytesAt::Zero)
+            } else {
+                None
+            },
+            BytesAt::Zero => if byte == b'x' {
+                Some(BytesAt::Even)
+            } else {
+                None
+            },
+            BytesAt::Even => if is_hex(byte) {
+                Some(BytesAt::Odd)
+            } else {
+                None
+            },
+            BytesAt::Odd => if is_hex(byte) {
+                Some(BytesAt::Even)
+            } else {
+                None
+            },
         }
     }
 

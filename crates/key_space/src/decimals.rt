@@ -71,7 +71,11 @@ impl Machine for Signed {
                 }
             }
             Signed::Zero => None,
-            Signed::Digits => if is_digit(byte) { Some(Signed::Digits) } else { None },
+            Signed::Digits => if is_digit(byte) {
+                Some(Signed::Digits)
+            } else {
+                None
+            },
         }
     }
 
@@ -111,7 +115,11 @@ impl Machine for Unsigned {
                 }
             }
             Unsigned::Zero => None,
-            Unsigned::Digits => if is_digit(byte) { Some(Unsigned::Digits) } else { None },
+            Unsigned::Digits => if is_digit(byte) {
+                Some(Unsigned::Digits)
+            } else {
+                None
+            },
         }
     }
 

@@ -7,7 +7,10 @@ pub mod faults;
 mod guid_texts;
 mod hex_digits;
 pub mod keys;
+pub mod laws;
 mod numbers;
 pub mod reading;
+#[cfg(test)]
+mod tests;
 pub mod values;
 pub mod writing;

@@ -1,4 +1,4 @@
-use Rattle.std.proofs.Common.{arith, length, take, length-take, sym, ap, ◌∙◌, ◌≡◌, ◌*◌, ◌/◌, ◌++◌, ℕ, Some, Ok, refl}
+use Rattle.std.proofs.Common.{arith, length, take, length-take, sym, ap, ◌∙◌, ◌≡◌, ◌/◌, ℕ, Some, Ok, refl}
 use Rattle.std.proofs.lemmas.List.{take_at}
 use Rattle.key_space.proofs.HexDigits.{some_value, pairs_of}
 use Rattle.key_space.proofs.BytesTexts.{decoded}

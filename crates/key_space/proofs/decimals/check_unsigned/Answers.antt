@@ -1,4 +1,4 @@
-use Rattle.std.proofs.Common.{◌≡◌, Bool, subst}
+use Rattle.std.proofs.Common.{Bool, subst}
 use Rattle.std.specs.Prelude.{IsTrue, OnOk, IfErr}
 use Rattle.cell_world.specs.Texts.{Text}
 use Rattle.key_space.specs.Texts.{IsAtPlace}

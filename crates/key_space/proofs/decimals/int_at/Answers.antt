@@ -1,9 +1,8 @@
-use Rattle.std.proofs.Common.{◌≡◌, ◌^◌, Some, sym, ap, subst, ◌∙◌}
+use Rattle.std.proofs.Common.{◌^◌, Some, sym, ap, subst, ◌∙◌}
 use Rattle.std.specs.Prelude.{FitsSigned}
 use Rattle.std.specs.Int.{w32}
 use Rattle.std.proofs.lemmas.Int.{to_z-of_z}
 use Rattle.std.proofs.lemmas.Result.{MatchResult-at_ok}
-use Rattle.cell_world.specs.KeyForms.{signed_number}
 use Rattle.key_space.specs.Values.{moved_up}
 use Rattle.key_space.proofs.DecimalValues.{read_signed, within_32, fits_32, ok_from}
 use Rattle.key_space.proofs.decimals.int_at.Goals as goal

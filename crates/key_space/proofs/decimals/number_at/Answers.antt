@@ -1,7 +1,7 @@
-use Rattle.std.proofs.Common.{◌≡◌, ℕ, ◌^◌, ◌<◌, ◌≤◌, Some, sym, ap, subst, ◌∙◌, arith, inl, inr, unwrap_or, Option}
+use Rattle.std.proofs.Common.{◌≡◌, ℕ, ◌^◌, ◌<◌, Some, sym, ap, subst, ◌∙◌, inl, inr, unwrap_or, Option}
 use Rattle.std.proofs.lemmas.Bool.{cases_lt}
 use Rattle.std.proofs.lemmas.Result.{MatchResult-at_ok}
-use Rattle.std.specs.Str.Parse.{IsNumeral, digits_value}
+use Rattle.std.specs.Str.Parse.{digits_value}
 use Rattle.key_space.proofs.DecimalValues.{read_number, number_utf8, without_plus, ok_from}
 use Rattle.key_space.proofs.decimals.number_at.Goals as goal
 
@@ -23,8 +23,8 @@ returns-in-Err-clause-none c =
     let same = (MatchResult-at_ok _ _ _ c.unwrap-digits.ensures c.from_utf8.ensures.cases).0 in
     let refused = rw (same, without_plus text is) at c.in-Err.ensures.value.0 in
     λ n e.
-      let value : digits_value 10 text ≡ n = ap (λ (o : Option ℕ). unwrap_or o 0) (sym is.value ∙ e) in
-      elim (cases_lt n (2 ^ 64)) [
-        | inl small ↦ absurd (refused (is.numeral, subst (λ m. m < 2 ^ 64) (sym value) small))
-        | inr large ↦ large
-      ]
+    let value : digits_value 10 text ≡ n = ap (λ (o : Option ℕ). unwrap_or o 0) (sym is.value ∙ e) in
+    elim (cases_lt n (2 ^ 64)) [
+      | inl small ↦ absurd (refused (is.numeral, subst (λ m. m < 2 ^ 64) (sym value) small))
+      | inr large ↦ large
+    ]

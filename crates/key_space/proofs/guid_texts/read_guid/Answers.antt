@@ -1,7 +1,6 @@
-use Rattle.std.proofs.Common.{◌≡◌, Some, Option, unwrap_or, [], sym, ap, ◌∙◌}
+use Rattle.std.proofs.Common.{◌≡◌, Some, sym, ap, ◌∙◌}
 use Rattle.std.proofs.lemmas.Result.{IfOk-at_ok}
 use Rattle.uuid.specs.Text.{parsed}
-use Rattle.cell_world.specs.Texts.{Text}
 use Rattle.cell_world.specs.KeyForms.{guid_bytes}
 use Rattle.key_space.proofs.HexDigits.{some_value}
 use Rattle.key_space.proofs.GuidValues.{parses}
