@@ -158,6 +158,10 @@ five_parsed a b c d e bytes h is =
     let same : bytes ≡ by_index 16 (byte_of_digits digits) = by_index_same bytes 16 (byte_of_digits digits) count (λ k x lt. get_or_default bytes k x 0 (omega (arith, count)) ∙ p.each k (omega (arith, count))) in
     rw (long.0, five_dashes a b c d e h, five_digits a b c d e h, long.1, p.all_hex) (ap Some (sym same))
 
+-- the digits of a group and of those behind it write the bytes of all
+with_others : (n : ℕ) (groups : List ℕ) (text bytes : Text) (p : IsGroup n groups text bytes) (others : Text) → hex_bytes others ≡ Some p.rest → hex_bytes (p.digits ++ others) ≡ Some bytes
+with_others n groups text bytes p others h = pairs_append p.digits others p.first p.rest p.written h ∙ ap Some p.joined
+
 pub parses : (text bytes : Text) → guid_bytes text ≡ Some bytes → parsed text ≡ Some bytes
 parses text bytes h =
     let p = first_group 4 2 (2 ∷ 2 ∷ 6 ∷ []) text bytes h in
@@ -165,15 +169,15 @@ parses text bytes h =
     let r = first_group 2 2 (6 ∷ []) q.after q.rest q.others in
     let s = first_group 2 6 [] r.after r.rest r.others in
     let t = last_group 6 s.after s.rest s.others in
-    let a = p.digits in
-    let b = q.digits in
-    let c = r.digits in
-    let d = s.digits in
-    let e = s.after in
-    let whole : text ≡ dashed a b c d e =
-    p.whole ∙ ap (λ (x : Text). a ++ 45 ∷ x) (q.whole ∙ ap (λ (x : Text). b ++ 45 ∷ x) (r.whole ∙ ap (λ (x : Text). c ++ 45 ∷ x) s.whole)) in
-    let digits : hex_bytes (plain a b c d e) ≡ Some (p.first ++ (q.first ++ (r.first ++ (s.first ++ s.rest)))) =
-    pairs_append a (b ++ (c ++ (d ++ e))) _ _ p.written (pairs_append b (c ++ (d ++ e)) _ _ q.written (pairs_append c (d ++ e) _ _ r.written (pairs_append d e _ _ s.written t.1))) in
-    let all : p.first ++ (q.first ++ (r.first ++ (s.first ++ s.rest))) ≡ bytes =
-    ap (λ (x : Text). p.first ++ x) (ap (λ (x : Text). q.first ++ x) (ap (λ (x : Text). r.first ++ x) s.joined ∙ r.joined) ∙ q.joined) ∙ p.joined in
-    ap parsed whole ∙ five_parsed a b c d e bytes (record { a8 = p.count; b4 = q.count; c4 = r.count; d4 = s.count; e12 = t.0 }) (digits ∙ ap Some all)
+    of_groups text bytes p q r s t
+  where
+    of_groups : (text bytes : Text) (p : IsGroup 4 (2 ∷ 2 ∷ 2 ∷ 6 ∷ []) text bytes) (q : IsGroup 2 (2 ∷ 2 ∷ 6 ∷ []) p.after p.rest) (r : IsGroup 2 (2 ∷ 6 ∷ []) q.after q.rest) (s : IsGroup 2 (6 ∷ []) r.after r.rest)
+        → (length s.after ≡ 2 * 6) × (hex_bytes s.after ≡ Some s.rest) → parsed text ≡ Some bytes
+    of_groups text bytes p q r s t =
+        let whole : text ≡ dashed p.digits q.digits r.digits s.digits s.after =
+        p.whole ∙ ap (λ (x : Text). p.digits ++ 45 ∷ x) (q.whole ∙ ap (λ (x : Text). q.digits ++ 45 ∷ x) (r.whole ∙ ap (λ (x : Text). r.digits ++ 45 ∷ x) s.whole)) in
+        let last = with_others 2 (6 ∷ []) r.after r.rest s s.after t.1 in
+        let third = with_others 2 (2 ∷ 6 ∷ []) q.after q.rest r (s.digits ++ s.after) last in
+        let second = with_others 2 (2 ∷ 2 ∷ 6 ∷ []) p.after p.rest q (r.digits ++ (s.digits ++ s.after)) third in
+        let all = with_others 4 (2 ∷ 2 ∷ 2 ∷ 6 ∷ []) text bytes p (q.digits ++ (r.digits ++ (s.digits ++ s.after))) second in
+        ap parsed whole ∙ five_parsed p.digits q.digits r.digits s.digits s.after bytes (record { a8 = p.count; b4 = q.count; c4 = r.count; d4 = s.count; e12 = t.0 }) all
