@@ -1,0 +1,79 @@
+-- The run so far, and how a command leaves it.
+use Rattle.std.specs.Prelude.{◌≡◌, ◌⊎◌, ℕ, ◌≤◌, false, List, [], ◌∷◌, ◌++◌, drop, Option, Some}
+use Rattle.cell_world.specs.Texts.{Text}
+use Rattle.cell_world.specs.Counts.{Rose}
+use Rattle.cell_world.specs.Images.{Image, Trail, image_at, end_of_trail}
+use Rattle.cell_world.specs.Plain.{Connections}
+use Rattle.cell_world.specs.Outside.{Outside, Told, TellsContents, TellsTrail}
+use Rattle.cell_world.specs.declared.outside.WorldError.TheVariants as error
+use Rattle.plain_model.specs.declared.history.Entry.{Entry}
+use Rattle.plain_model.specs.Timelines.{Timeline, Past, happened_of, history_of}
+use Rattle.plain_model.specs.Written.{EachReply}
+use Rattle.plain_model.specs.Running.{Owing}
+use Rattle.plain_model.specs.RunningAlone.{RunningAlone, entries_of}
+use Rattle.plain_model.specs.Headline.{GoesOnFrom}
+use Rattle.script_shell.specs.Scripts.{map_of}
+use Rattle.script_shell.specs.Answering.{reply_of, IsLater}
+use Rattle.script_shell.specs.declared.answers.Answer.{Answer}
+use Rattle.script_shell.specs.declared.answers.Answer.TheVariants.{Fault}
+use Rattle.script_shell.specs.declared.answers.Outcome.{Outcome}
+use Rattle.script_shell.specs.declared.answers.Outcome.TheVariants.{Answered, Unasked, Unwritten}
+
+-- ---- over a world that tells its trail
+
+-- The run so far: it began at moment t0 with these stores, its trail and history are these, and this is still to be written.
+pub record RunsOn (t0 : ℕ) (start : Image) (trail : Trail) (history : List Entry) (rest : Text) : Type 0 where
+  pub began : t0 ≤ end_of_trail trail
+  pub starts : image_at trail t0 ≡ start
+  -- what came in which order, with the connections now
+  pub past : Timeline
+  pub connections : Connections
+  pub happened : happened_of past ≡ drop t0 trail.happened
+  pub entries : history_of past ≡ history
+  pub owing : Owing t0 start (EachReply false) past connections rest
+
+-- the trail that is told goes on from this one, and the run with it
+pub record HasGoneOn (t0 : ℕ) (start : Image) (before : Trail) (new : Told) (history : List Entry) (rest : Text) : Type 0 where
+  pub trail : Trail
+  pub told : new ≡ TellsTrail trail
+  pub goes_on : GoesOnFrom before trail
+  pub runs : RunsOn t0 start trail history rest
+
+-- Whatever run was so far, with nothing left to write, goes on so.
+abbrev pub KeepsRun : Told → List Entry → Told → List Entry → Text → Type 0
+KeepsRun old history new after rest = (t0 : ℕ) (start : Image) (trail : Trail) → old ≡ TellsTrail trail → RunsOn t0 start trail history [] → HasGoneOn t0 start trail new after rest
+
+-- ---- over a world that tells its contents alone
+
+-- The run so far: it began with the first image, it stands at this one, and its history is this.
+pub record RunsTo (first image : Image) (history : List Entry) : Type 0 where
+  pub past : Past
+  pub connections : Connections
+  pub entries : entries_of past ≡ history
+  pub run : RunningAlone first past connections image
+
+pub record HasGoneTo (first : Image) (new : Told) (history : List Entry) : Type 0 where
+  pub image : Image
+  pub told : new ≡ TellsContents image
+  pub runs : RunsTo first image history
+
+abbrev pub KeepsContents : Told → List Entry → Told → List Entry → Type 0
+KeepsContents old history new after = (first image : Image) → old ≡ TellsContents image → RunsTo first image history → HasGoneTo first new after
+
+-- ---- a command
+
+-- it was answered so: its entry stands at the end of the history
+pub record IsEntered (name : Text) (answer : Answer) (old new : Outside) (history after : List Entry) : Type 0 where
+  pub entry : Entry
+  pub session : entry.session ≡ 1
+  pub command : entry.command ≡ map_of name
+  pub reply : entry.reply ≡ Some (reply_of answer)
+  pub added : after ≡ history ++ entry ∷ []
+  -- a fault has its cause at the global store
+  pub cause : answer ≡ Fault → Rose (old.faults_at 0) (new.faults_at 0)
+
+-- What a command leaves: an entry and all lines written, or an entry with a rest to write, or nothing.
+abbrev pub Asks : Text → Outside → Outside → List Entry → List Entry → Outcome → Type 0
+Asks name old new history after (Answered answer) = IsEntered name answer old new history after × KeepsRun old.told history new.told after []
+Asks name old new history after (Unwritten failure) = (answer : Answer) × IsEntered name answer old new history after × ((rest : Text) × KeepsRun old.told history new.told after rest)
+Asks name old new history after Unasked = (after ≡ history) × (new.told ≡ old.told)

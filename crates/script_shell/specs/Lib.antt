@@ -1,0 +1,5 @@
+pub mod Answering
+pub mod Going
+pub mod Promises
+pub mod Scripts
+pub mod Sources

@@ -1,0 +1,13 @@
+-- What was read of a source.
+use Rattle.std.specs.Prelude.{◌≡◌, ◌++◌, Option, Some, None}
+use Rattle.cell_world.specs.Texts.{Text}
+
+-- where it is told, it is this
+abbrev pub IfTold : Option Text → Text → Type 0
+IfTold None bytes = Unit {0}
+IfTold (Some told) bytes = told ≡ bytes
+
+-- where it is told: these bytes were left, and now the rest is
+abbrev pub WereTaken : Option Text → Option Text → Text → Type 0
+WereTaken None after bytes = after ≡ None
+WereTaken (Some left) after bytes = (rest : Text) × (after ≡ Some rest) × (left ≡ bytes ++ rest)

@@ -1,0 +1,5 @@
+//! The program `shardctl` over any world and any source: from the bytes of a script to commits and reply lines.
+#![tactic(auto)]
+
+pub mod answers;
+mod commands;
