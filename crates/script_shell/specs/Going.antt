@@ -1,11 +1,10 @@
 -- The run so far, and how a command leaves it.
-use Rattle.std.specs.Prelude.{◌≡◌, ◌⊎◌, ℕ, ◌≤◌, false, List, [], ◌∷◌, ◌++◌, drop, Option, Some}
+use Rattle.std.specs.Prelude.{◌≡◌, ℕ, ◌≤◌, false, List, [], ◌∷◌, ◌++◌, drop, Some}
 use Rattle.cell_world.specs.Texts.{Text}
 use Rattle.cell_world.specs.Counts.{Rose}
 use Rattle.cell_world.specs.Images.{Image, Trail, image_at, end_of_trail}
 use Rattle.cell_world.specs.Plain.{Connections}
 use Rattle.cell_world.specs.Outside.{Outside, Told, TellsContents, TellsTrail}
-use Rattle.cell_world.specs.declared.outside.WorldError.TheVariants as error
 use Rattle.plain_model.specs.declared.history.Entry.{Entry}
 use Rattle.plain_model.specs.Timelines.{Timeline, Past, happened_of, history_of}
 use Rattle.plain_model.specs.Written.{EachReply}
@@ -13,7 +12,7 @@ use Rattle.plain_model.specs.Running.{Owing}
 use Rattle.plain_model.specs.RunningAlone.{RunningAlone, entries_of}
 use Rattle.plain_model.specs.Headline.{GoesOnFrom}
 use Rattle.script_shell.specs.Scripts.{map_of}
-use Rattle.script_shell.specs.Answering.{reply_of, IsLater}
+use Rattle.script_shell.specs.Answering.{reply_of}
 use Rattle.script_shell.specs.declared.answers.Answer.{Answer}
 use Rattle.script_shell.specs.declared.answers.Answer.TheVariants.{Fault}
 use Rattle.script_shell.specs.declared.answers.Outcome.{Outcome}

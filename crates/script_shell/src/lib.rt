@@ -3,3 +3,4 @@
 
 pub mod answers;
 mod commands;
+pub mod engine;
