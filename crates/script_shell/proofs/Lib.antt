@@ -1,7 +1,13 @@
+pub mod CallLaws
 pub mod Events
+pub mod HistoryLaws
 pub mod KeyCounts
 pub mod LineLaws
+pub mod LoopLaws
 pub mod MapCommand
 pub mod MapEntry
 pub mod ScanLaws
+pub mod ScriptLaws
+pub mod SourceLaws
 pub mod TrailLaws
+pub mod WholeLaws

@@ -1,10 +1,13 @@
 -- The run so far, and how a command leaves it.
-use Rattle.std.specs.Prelude.{◌≡◌, ℕ, ◌≤◌, false, List, [], ◌∷◌, ◌++◌, drop, Some}
+use Rattle.std.specs.Prelude.{◌≡◌, ℕ, Bool, true, false, Option, None, ◌≤◌, List, [], ◌∷◌, ◌++◌, drop, Some}
 use Rattle.cell_world.specs.Texts.{Text}
 use Rattle.cell_world.specs.Counts.{Rose}
 use Rattle.cell_world.specs.Images.{Image, Trail, image_at, end_of_trail}
 use Rattle.cell_world.specs.Plain.{Connections}
 use Rattle.cell_world.specs.Outside.{Outside, Told, TellsContents, TellsTrail}
+use Rattle.cell_world.specs.declared.outside.WorldError.TheVariants as error
+use Rattle.plain_model.specs.declared.finish.RunStatus.{RunStatus}
+use Rattle.plain_model.specs.declared.finish.RunStatus.TheVariants as status
 use Rattle.plain_model.specs.declared.history.Entry.{Entry}
 use Rattle.plain_model.specs.Timelines.{Timeline, Past, happened_of, history_of}
 use Rattle.plain_model.specs.Written.{EachReply}
@@ -14,7 +17,7 @@ use Rattle.plain_model.specs.Headline.{GoesOnFrom}
 use Rattle.script_shell.specs.Scripts.{map_of}
 use Rattle.script_shell.specs.Answering.{reply_of}
 use Rattle.script_shell.specs.declared.answers.Answer.{Answer}
-use Rattle.script_shell.specs.declared.answers.Answer.TheVariants.{Fault}
+use Rattle.script_shell.specs.declared.answers.Answer.TheVariants as answers
 use Rattle.script_shell.specs.declared.answers.Outcome.{Outcome}
 use Rattle.script_shell.specs.declared.answers.Outcome.TheVariants.{Answered, Unasked, Unwritten}
 
@@ -69,10 +72,31 @@ pub record IsEntered (name : Text) (answer : Answer) (old new : Outside) (histor
   pub reply : entry.reply ≡ Some (reply_of answer)
   pub added : after ≡ history ++ entry ∷ []
   -- a fault has its cause at the global store
-  pub cause : answer ≡ Fault → Rose (old.faults_at 0) (new.faults_at 0)
+  pub cause : answer ≡ answers.Fault → Rose (old.faults_at 0) (new.faults_at 0)
 
 -- What a command leaves: an entry and all lines written, or an entry with a rest to write, or nothing.
 abbrev pub Asks : Text → Outside → Outside → List Entry → List Entry → Outcome → Type 0
 Asks name old new history after (Answered answer) = IsEntered name answer old new history after × KeepsRun old.told history new.told after []
 Asks name old new history after (Unwritten failure) = (answer : Answer) × IsEntered name answer old new history after × ((rest : Text) × KeepsRun old.told history new.told after rest)
 Asks name old new history after Unasked = (after ≡ history) × (new.told ≡ old.told)
+
+-- ---- between two commands
+
+-- with this status the run stops after the command
+abbrev pub stop_of : Outcome → Option RunStatus
+stop_of (Answered answers.Fault) = Some status.StoreFault
+stop_of (Answered answers.Memory) = Some status.Memory
+stop_of (Answered other) = None
+stop_of Unasked = Some status.Memory
+stop_of (Unwritten error.Failed) = Some status.WriteFault
+stop_of (Unwritten error.Memory) = Some status.Memory
+
+abbrev pub is_refusal : Answer → Bool
+is_refusal answers.MapExists = true
+is_refusal answers.Full = true
+is_refusal other = false
+
+-- the command was refused
+abbrev pub refuses : Outcome → Bool
+refuses (Answered answer) = is_refusal answer
+refuses other = false

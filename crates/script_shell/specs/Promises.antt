@@ -31,6 +31,11 @@ has_begun status.WriteFault = true
 has_begun status.StoreFault = true
 has_begun other = false
 
+-- the statuses that commands come to
+abbrev pub is_of_commands : RunStatus → Bool
+is_of_commands status.Memory = true
+is_of_commands other = has_begun other
+
 -- the source was read to its end
 abbrev pub was_read : RunStatus → Bool
 was_read (status.BadScript line reason) = true
@@ -51,6 +56,10 @@ causes_of words bytes faults later = record {
   too_long = 1048576 < length bytes;
   source_rose = Rose faults later;
 }
+
+-- none of the words, the script or the source
+abbrev pub no_causes : Causes
+no_causes = record { bad_words = λ place. ⊥; bad_script = λ line reason. ⊥; too_long = ⊥; source_rose = ⊥ }
 
 -- ---- the parts that speak of what is told
 

@@ -7,6 +7,8 @@ use Rattle.cell_world.specs.declared.cells.KeyType.TheVariants.{Int}
 use Rattle.plain_model.specs.declared.commands.Command.{Command}
 use Rattle.plain_model.specs.declared.commands.Command.TheVariants as command
 use Rattle.plain_model.specs.declared.commands.Asked.{Asked}
+use Rattle.script_shell.specs.declared.script.ScriptStop.{ScriptStop}
+use Rattle.script_shell.specs.declared.script.ScriptStop.TheVariants as stop
 
 -- ---- lines
 
@@ -52,3 +54,8 @@ pub record IsFirstFaulty (bytes : Text) (line : ℕ) : Type 0 where
   -- something is there, which isn't such a line
   pub there : rest ≢ []
   pub faulty : BeginsFaulty rest
+
+-- why a script wasn't read
+abbrev pub IfFaulty : Text → ScriptStop → Type 0
+IfFaulty bytes (stop.Faulty line) = IsFirstFaulty bytes line
+IfFaulty bytes stop.Memory = Unit {0}

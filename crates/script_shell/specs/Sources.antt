@@ -1,5 +1,5 @@
 -- What was read of a source.
-use Rattle.std.specs.Prelude.{◌≡◌, ◌++◌, Option, Some, None}
+use Rattle.std.specs.Prelude.{◌≡◌, ℕ, ◌<◌, ◌++◌, Option, Some, None, length}
 use Rattle.cell_world.specs.Texts.{Text}
 
 -- where it is told, it is this
@@ -11,3 +11,9 @@ IfTold (Some told) bytes = told ≡ bytes
 abbrev pub WereTaken : Option Text → Option Text → Text → Type 0
 WereTaken None after bytes = after ≡ None
 WereTaken (Some left) after bytes = (rest : Text) × (after ≡ Some rest) × (left ≡ bytes ++ rest)
+
+-- it had more bytes than these, told or not
+pub record HasMore (most : ℕ) (left : Option Text) : Type 0 where
+  pub bytes : Text
+  pub told : IfTold left bytes
+  pub long : most < length bytes

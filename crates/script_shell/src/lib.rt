@@ -4,3 +4,7 @@
 pub mod answers;
 mod commands;
 pub mod engine;
+mod reading;
+mod run;
+mod script;
+pub mod shell;
