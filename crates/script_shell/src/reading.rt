@@ -30,6 +30,7 @@ pub fn read_all<S: Source>(alloc: Global, source: &mut S) -> Result<Vec<u8>, Rea
     ensures short { IfOk result (λ bytes. length bytes.items ≤ 1048576) }
     ensures long { IsErrOf result ReadStop.TooLong → HasMore 1048576 (S.left source.old) }
     ensures fault { IsErrOf result ReadStop.Fault → Rose (S.faults source.old) (S.faults source.new) }
+    ensures falls { S.faults source.old ≤ S.faults source.new }
 {
     let Ok(mut buffer) = vec![in alloc; 0u8; BUFFER_BYTES] else {
         return Err(ReadStop::Memory);

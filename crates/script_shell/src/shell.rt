@@ -1,5 +1,5 @@
 //! The program `shardctl` over any world and any source: words, reading, script, commands.
-ghost use Rattle.std.specs.Prelude.{◌≡◌, []};
+ghost use Rattle.std.specs.Prelude.{◌≡◌, ◌≤◌, []};
 ghost use Rattle.script_shell.specs.Promises.{RunsScript, Completes};
 
 use crate::engine::Core;
