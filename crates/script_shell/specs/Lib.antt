@@ -1,4 +1,5 @@
 pub mod Answering
+pub mod Endings
 pub mod Going
 pub mod Promises
 pub mod Scripts
