@@ -1,0 +1,24 @@
+//! The program over any words, input and output.
+use cell_world::outside::World;
+use plain_model::finish::RunStatus;
+use script_shell::shell::run_script;
+use script_shell::std_source::StdSource;
+use std::alloc::Global;
+use std::io::{Read, Write};
+use world_memory::world::MemoryWorld;
+
+/// Runs a script over stores in memory, and then writes what it wrote.
+pub fn run<I: Read + Drop, O: Write>(alloc: Global, words: &Vec<String>, input: I, output: &mut O) -> RunStatus {
+    let Ok(world) = MemoryWorld::new(alloc, &[]) else {
+        return RunStatus::Memory;
+    };
+    let mut source = StdSource::new(input);
+    let (finish, world) = run_script(alloc, words, world, &mut source);
+    let Ok(bytes) = world.output(alloc) else {
+        return RunStatus::Memory;
+    };
+    match output.write_all(bytes.as_slice()) {
+        Ok(()) => finish.status,
+        Err(_) => RunStatus::WriteFault,
+    }
+}
