@@ -1,5 +1,5 @@
 //! The program over any words, input and output.
-use cell_world::outside::World;
+use cell_world::items::Memory;
 use plain_model::finish::RunStatus;
 use script_shell::shell::run_script;
 use script_shell::std_source::StdSource;
@@ -7,9 +7,19 @@ use std::alloc::Global;
 use std::io::{Read, Write};
 use world_memory::world::MemoryWorld;
 
+/// A world without locations, in which nothing happened yet.
+pub fn empty_world(alloc: Global) -> Result<MemoryWorld, Memory> {
+    MemoryWorld::new(alloc, &[])
+}
+
 /// Runs a script over stores in memory, and then writes what it wrote.
-pub fn run<I: Read + Drop, O: Write>(alloc: Global, words: &Vec<String>, input: I, output: &mut O) -> RunStatus {
-    let Ok(world) = MemoryWorld::new(alloc, &[]) else {
+pub fn run<I: Read + Drop, O: Write>(
+    alloc: Global,
+    words: &Vec<String>,
+    input: I,
+    output: &mut O,
+) -> RunStatus {
+    let Ok(world) = empty_world(alloc) else {
         return RunStatus::Memory;
     };
     let mut source = StdSource::new(input);

@@ -1,4 +1,5 @@
 //! Scripts as tests, over the world and the source in memory.
+use crate::program::empty_world;
 use cell_world::outside::World;
 use plain_model::finish::{Reason, RunStatus};
 use script_shell::shell::run_script;
@@ -8,13 +9,14 @@ use world_memory::source::MemorySource;
 use world_memory::world::MemoryWorld;
 
 /// How a run ended, and the world after it.
+#[derive(Drop)]
 struct Ran {
     status: RunStatus,
     world: MemoryWorld,
 }
 
 /// Runs a script without words over a world.
-fn ran(alloc: Global, world: MemoryWorld, script: Vec<u8>) -> Ran {
+fn run_over(alloc: Global, world: MemoryWorld, script: Vec<u8>) -> Ran {
     let words: Vec<String> = Vec::new(alloc);
     let mut source = MemorySource::new(script);
     let (finish, world) = run_script(alloc, &words, world, &mut source);
@@ -27,7 +29,7 @@ fn ran(alloc: Global, world: MemoryWorld, script: Vec<u8>) -> Ran {
 #[test]
 fn an_empty_script_does_nothing(rt: HostRuntime) -> Result<(), Fail> {
     let alloc = rt.alloc();
-    let after = ran(alloc, MemoryWorld::new(alloc, &[])?, Vec::new(alloc));
+    let after = run_over(alloc, empty_world(alloc)?, Vec::new(alloc));
     assert!(rt; after.status == RunStatus::Done);
     assert_eq!(rt; after.world.moment(), 0);
     assert_eq!(rt; after.world.output(alloc)?.as_slice(), b"".as_slice());
@@ -38,9 +40,12 @@ fn an_empty_script_does_nothing(rt: HostRuntime) -> Result<(), Fail> {
 fn a_second_map_of_one_name_is_refused(rt: HostRuntime) -> Result<(), Fail> {
     let alloc = rt.alloc();
     let script = b"map m range int\nmap m range int\n".to_vec(alloc)?;
-    let after = ran(alloc, MemoryWorld::new(alloc, &[])?, script);
+    let after = run_over(alloc, empty_world(alloc)?, script);
     assert!(rt; after.status == RunStatus::Refused);
-    assert_eq!(rt; after.world.output(alloc)?.as_slice(), b"ok\nmap-exists\n".as_slice());
+    assert_eq!(rt;
+        after.world.output(alloc)?.as_slice(),
+        b"ok\nmap-exists\n".as_slice()
+    );
     // the map, and two lines
     assert_eq!(rt; after.world.moment(), 3);
     Ok(())
@@ -50,11 +55,16 @@ fn a_second_map_of_one_name_is_refused(rt: HostRuntime) -> Result<(), Fail> {
 fn a_crash_keeps_what_was_committed(rt: HostRuntime) -> Result<(), Fail> {
     let alloc = rt.alloc();
     let script = b"map m range int\nmap m range int\n".to_vec(alloc)?;
-    let after = ran(alloc, MemoryWorld::new(alloc, &[])?, script);
+    let after = run_over(alloc, empty_world(alloc)?, script);
+    let length = after.world.moment();
+    assert!(rt; length == 3);
     let world = after.world.crashed(alloc, 1)?;
-    let again = ran(alloc, world, b"map m range int\n".to_vec(alloc)?);
+    let again = run_over(alloc, world, b"map m range int\n".to_vec(alloc)?);
     assert!(rt; again.status == RunStatus::Refused);
-    assert_eq!(rt; again.world.output(alloc)?.as_slice(), b"map-exists\n".as_slice());
+    assert_eq!(rt;
+        again.world.output(alloc)?.as_slice(),
+        b"map-exists\n".as_slice()
+    );
     Ok(())
 }
 
@@ -62,7 +72,7 @@ fn a_crash_keeps_what_was_committed(rt: HostRuntime) -> Result<(), Fail> {
 fn another_command_is_not_built(rt: HostRuntime) -> Result<(), Fail> {
     let alloc = rt.alloc();
     let script = b"map m list int\n".to_vec(alloc)?;
-    let after = ran(alloc, MemoryWorld::new(alloc, &[])?, script);
+    let after = run_over(alloc, empty_world(alloc)?, script);
     assert!(rt; after.status == RunStatus::BadScript(1, Reason::NotBuilt));
     assert_eq!(rt; after.world.moment(), 0);
     Ok(())
@@ -72,9 +82,9 @@ fn another_command_is_not_built(rt: HostRuntime) -> Result<(), Fail> {
 fn no_word_is_accepted(rt: HostRuntime) -> Result<(), Fail> {
     let alloc = rt.alloc();
     let mut words: Vec<String> = Vec::new(alloc);
-    words.push(String::from_str_in("x", alloc)?)?;
+    words.push(format!(in alloc; "x")?)?;
     let mut source = MemorySource::new(b"map m range int\n".to_vec(alloc)?);
-    let (finish, world) = run_script(alloc, &words, MemoryWorld::new(alloc, &[])?, &mut source);
+    let (finish, world) = run_script(alloc, &words, empty_world(alloc)?, &mut source);
     assert!(rt; finish.status == RunStatus::BadWords(1));
     assert_eq!(rt; world.moment(), 0);
     Ok(())
@@ -84,10 +94,10 @@ fn no_word_is_accepted(rt: HostRuntime) -> Result<(), Fail> {
 fn a_script_has_at_most_1048576_bytes(rt: HostRuntime) -> Result<(), Fail> {
     let alloc = rt.alloc();
     let fits = vec![in alloc; b'x'; 1_048_576]?;
-    let after = ran(alloc, MemoryWorld::new(alloc, &[])?, fits);
+    let after = run_over(alloc, empty_world(alloc)?, fits);
     assert!(rt; after.status == RunStatus::BadScript(1, Reason::NotBuilt));
     let more = vec![in alloc; b'x'; 1_048_577]?;
-    let after = ran(alloc, MemoryWorld::new(alloc, &[])?, more);
+    let after = run_over(alloc, empty_world(alloc)?, more);
     assert!(rt; after.status == RunStatus::TooLong);
     Ok(())
 }
@@ -102,7 +112,7 @@ fn at_most_64_maps_stand(rt: HostRuntime) -> Result<(), Fail> {
         script.push(b'0' + number % 10)?;
         script.extend_from_slice(b" range int\n")?;
     }
-    let after = ran(alloc, MemoryWorld::new(alloc, &[])?, script);
+    let after = run_over(alloc, empty_world(alloc)?, script);
     assert!(rt; after.status == RunStatus::Refused);
     let output = after.world.output(alloc)?;
     assert_eq!(rt; output.len(), 64 * 3 + 5);
