@@ -92,9 +92,6 @@ module _ (old mid new : Told) (history : List Entry) (name : Text) (answer : Ans
 pub rose_later : (a b c : ℕ) → Rose a b → b ≤ c → Rose a c
 rose_later a b c rose up = omega (arith, rose, up)
 
-pub rose_earlier : (a b c : ℕ) → a ≤ b → Rose b c → Rose a c
-rose_earlier a b c up rose = omega (arith, rose, up)
-
 -- what the whole command leaves
 pub asks : (old mid new : Outside) (history one two : List Entry) (name : Text) (answer : Answer) (m moment : ℕ) (reply : Reply) (outcome : Outcome)
     → AnswersMap old.told mid.told name answer → (answer ≡ answers.Fault → Rose (old.faults_at 0) (mid.faults_at 0)) → IfTrail mid.told (λ trail. moment ≡ end_of_trail trail)

@@ -1,10 +1,9 @@
 -- The lines of a script, and its first faulty one.
-use Rattle.std.proofs.Common.{◌≡◌, ◌++◌, ◌+◌, ◌≤◌, ℕ, Bool, true, false, cond, List, [], ◌∷◌, length, take, drop, refl, sym, ap, ◌∙◌, subst, arith}
+use Rattle.std.proofs.Common.{◌≡◌, ◌++◌, ◌+◌, ℕ, Bool, true, false, cond, List, [], ◌∷◌, length, take, drop, refl, sym, ap, ◌∙◌, subst, arith}
 use Rattle.std.proofs.lemmas.Bool.{false≢true}
 use Rattle.std.proofs.lemmas.List.{take_at, drop_at, append_assoc, append_cancel_left, append-nil, length-append}
 use Rattle.std.specs.List.{prefix_len, list_all}
-use Rattle.std.specs.Prelude.{Result, Ok, Err, is_ok, is_err, if◌then◌else◌, codes, IsTrue, nat_lt, ◌&&◌, ◌||◌, ◌==◌}
-use Rattle.std.proofs.lemmas.Grind.{flat_map-append}
+use Rattle.std.specs.Prelude.{codes, IsTrue, nat_lt, ◌&&◌, ◌||◌, ◌==◌}
 use Rattle.cell_world.specs.Texts.{Text, is_name, is_name_byte, is_letter, is_digit}
 use Rattle.cell_world.specs.ByteOrder.{byte_eq, byte_eq_laws}
 use Rattle.script_shell.specs.Scripts.{map_line, script_lines, AreNames, IsScript, IsFirstFaulty, BeginsFaulty}
@@ -76,33 +75,14 @@ one_line a b s t good fine same =
     let behind : back ++ s ≡ back ++ t = sym (drop_at a (back ++ s) (length a) refl) ∙ ap (drop (length a)) at ∙ drop_at b (back ++ t) (length a) (sym cut) in
     (name, append_cancel_left back s t behind)
 
--- ---- more lines
-
-pub lines_more : (bytes rest after : Text) (names : List Text) (name : Text) → bytes ≡ script_lines names ++ rest → rest ≡ map_line name ++ after → bytes ≡ script_lines (names ++ name ∷ []) ++ after
-lines_more bytes rest after names name is line =
-    is ∙ ap (λ r. script_lines names ++ r) line ∙ sym (append_assoc (script_lines names) (map_line name) after)
-    ∙ ap (λ l. l ++ after) (ap (λ l. script_lines names ++ l) (sym (append-nil (map_line name))) ∙ sym (flat_map-append map_line names (name ∷ [])))
-
-pub names_more : (names : List Text) (name : Text) → AreNames names → IsTrue (is_name name) → AreNames (names ++ name ∷ [])
-names_more [] name all one = (one, tt)
-names_more (n ∷ ns) name all one = (all.0, names_more ns name all.1 one)
-
-pub line_long : (rest after name : Text) → rest ≡ map_line name ++ after → length after + 1 ≤ length rest
-line_long rest after name line = omega (arith, ap length line, length-append (map_line name) after)
-
-pub pushed : {X T E : Type 0} (result : Result T E) (new old : List X) (x : X) → new ≡ (if is_ok result then old ++ x ∷ [] else old) → is_err result ≡ false → new ≡ old ++ x ∷ []
-pushed (Ok done) new old x is fine = is
-pushed (Err e) new old x is fine = absurd cc
-
 -- ---- the first faulty line
 
--- a line that begins so is none
+-- the first line of a script
 first_of : (name more : Text) → (names : List Text) → script_lines (name ∷ names) ++ more ≡ map_line name ++ (script_lines names ++ more)
 first_of name more names = append_assoc (map_line name) (script_lines names) more
 
 -- good lines before a faulty one, or before the end, are the same lines
 module _ (a b : Text) (bad : BeginsFaulty a) where
-  -- the first are no more than the second, where the second end in nothing or in a faulty line too
   pub same_lines : BeginsFaulty b → (xs ys : List Text) → AreNames xs → AreNames ys → script_lines xs ++ a ≡ script_lines ys ++ b → (length xs ≡ length ys) × (a ≡ b)
   same_lines worse [] [] good fine same = (refl, same)
   same_lines worse [] (y ∷ ys) good fine same = absurd (bad y (script_lines ys ++ b) fine.0 (same ∙ first_of y b ys))
