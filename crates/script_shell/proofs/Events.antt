@@ -12,7 +12,7 @@ use Rattle.plain_model.specs.declared.history.Entry.{Entry}
 use Rattle.plain_model.specs.declared.replies.Reply.{Reply}
 use Rattle.plain_model.specs.Entries.{opened, settled}
 use Rattle.plain_model.proofs.AloneLaws.{alone_enters}
-use Rattle.script_shell.specs.Scripts.{map_of}
+use Rattle.script_shell.specs.Scripts.{map_command}
 use Rattle.script_shell.specs.Answering.{reply_of, line_of, AnswersMap, AnswersAt, CommitsAt, map_commit, standing_with, WritesLine, IsLater}
 use Rattle.script_shell.specs.Going.{HasGoneOn, KeepsRun, RunsTo, HasGoneTo, KeepsContents, IsEntered, Asks}
 use Rattle.script_shell.specs.declared.answers.Answer.{Answer}
@@ -95,13 +95,13 @@ rose_later a b c rose up = omega (arith, rose, up)
 -- what the whole command leaves
 pub asks : (old mid new : Outside) (history one two : List Entry) (name : Text) (answer : Answer) (m moment : ℕ) (reply : Reply) (outcome : Outcome)
     → AnswersMap old.told mid.told name answer → (answer ≡ answers.Fault → Rose (old.faults_at 0) (mid.faults_at 0)) → IfTrail mid.told (λ trail. moment ≡ end_of_trail trail)
-    → one ≡ history ++ opened 1 (map_of name) m ∷ []
+    → one ≡ history ++ opened 1 (map_command name) m ∷ []
     → ((front : List Entry) (entry : Entry) → one ≡ front ++ entry ∷ [] → two ≡ front ++ settled entry (Some reply) moment 0 ∷ []) → reply ≡ reply_of answer
     → WritesLine mid.told new.told answer outcome → IsLater mid new → Asks name old new history two outcome
 asks old mid new history one two name answer m moment reply outcome answered cause now added settle is writes later = by outcome writes
   where
     settles : two ≡ history ++ entry_of name m moment answer ∷ []
-    settles = settle history (opened 1 (map_of name) m) added ∙ ap (λ r. history ++ settled (opened 1 (map_of name) m) (Some r) moment 0 ∷ []) is
+    settles = settle history (opened 1 (map_command name) m) added ∙ ap (λ r. history ++ settled (opened 1 (map_command name) m) (Some r) moment 0 ∷ []) is
 
     enters : IsEntered name answer old new history two
     enters = record {
@@ -109,6 +109,7 @@ asks old mid new history one two name answer m moment reply outcome answered cau
       session = refl;
       command = refl;
       reply = refl;
+      operation = refl;
       added = settles;
       cause = λ fault. rose_later (old.faults_at 0) (mid.faults_at 0) (new.faults_at 0) (cause fault) (later.faults 0);
     }
@@ -137,13 +138,13 @@ written_contents mid new image answer (Unwritten error.Memory) is w = w ∙ is
 written_contents mid new image answer Unasked is w = absurd w
 
 pub contents : (old mid new : Told) (history one two : List Entry) (name : Text) (answer : Answer) (m moment : ℕ) (reply : Reply) (outcome : Outcome)
-    → AnswersMap old mid name answer → one ≡ history ++ opened 1 (map_of name) m ∷ []
+    → AnswersMap old mid name answer → one ≡ history ++ opened 1 (map_command name) m ∷ []
     → ((front : List Entry) (entry : Entry) → one ≡ front ++ entry ∷ [] → two ≡ front ++ settled entry (Some reply) moment 0 ∷ []) → reply ≡ reply_of answer
     → WritesLine mid new answer outcome → KeepsContents old history new two
 contents old mid new history one two name answer m moment reply outcome answered added settle is writes first image told run = by answered
   where
     settles : two ≡ history ++ entry_of name m moment answer ∷ []
-    settles = settle history (opened 1 (map_of name) m) added ∙ ap (λ r. history ++ settled (opened 1 (map_of name) m) (Some r) moment 0 ∷ []) is
+    settles = settle history (opened 1 (map_command name) m) added ∙ ap (λ r. history ++ settled (opened 1 (map_command name) m) (Some r) moment 0 ∷ []) is
 
     enters : (after : Image) → mid ≡ TellsContents after → Sound after
         → Rattle.script_shell.specs.Answering.MapFollows (standing_with image run.connections) name (standing_with after run.connections) answer → HasGoneTo first new two

@@ -3,24 +3,27 @@ use Rattle.std.proofs.Common.{◌≡◌, ℕ, zero, suc, ◌+◌, Bool, true, fa
 use Rattle.std.proofs.lemmas.List.{append-nil, length-append}
 use Rattle.std.proofs.lemmas.List.Elements.{filter-append}
 use Rattle.std.specs.Prelude.{option_map, IsSome}
+use Rattle.std.specs.List.{AllByRecursion}
 use Rattle.cell_world.specs.Texts.{Text}
 use Rattle.plain_model.specs.declared.replies.Reply.{Reply}
 use Rattle.plain_model.specs.declared.history.Entry.{Entry}
 use Rattle.plain_model.specs.Refusing.{if_there}
-use Rattle.plain_model.specs.Summary.{replies_of, is_memory}
+use Rattle.plain_model.specs.Summary.{replies_of, is_fault, is_memory}
 use Rattle.plain_model.specs.Legal.{AllGoing, Promises, KeepsPromises}
 use Rattle.plain_model.specs.Headline.{script_of, answered_by, EndsAnswered, EndsWithMemory, InOrder, AllAnswered}
-use Rattle.script_shell.specs.Scripts.{map_of, asked_of}
+use Rattle.script_shell.specs.Scripts.{map_command, asked_of}
 use Rattle.script_shell.specs.Answering.{reply_of}
+use Rattle.script_shell.specs.Promises.{EndsWithFault}
 use Rattle.script_shell.specs.declared.answers.Answer.{Answer}
 use Rattle.script_shell.specs.declared.answers.Answer.TheVariants.{Ok, MapExists, Full, Fault, Memory}
 
 -- the entry answers the line with this name
 pub record IsAnswerTo (name : Text) (e : Entry) : Type 0 where
   pub session : e.session ≡ 1
-  pub command : e.command ≡ map_of name
+  pub command : e.command ≡ map_command name
   pub answer : Answer
   pub reply : e.reply ≡ Some (reply_of answer)
+  pub operation : e.operation ≡ 0
 
 -- the entries answer these lines, one each
 abbrev pub AreAnswersTo : List Text → List Entry → Type 0
@@ -49,16 +52,16 @@ module _ (session : ℕ) where
   answered_are (name ∷ names) (e ∷ history) all =
       let one = all.0 in
       (λ i. cond ((one.session i == session) && is_some (one.reply i)) (one.command i ∷ answered_are names history all.1 i) (answered_are names history all.1 i))
-      ∙ ap (λ b. cond b (map_of name ∷ script_of session (asked_of names)) (script_of session (asked_of names))) (both_true (1 == session))
+      ∙ ap (λ b. cond b (map_command name ∷ script_of session (asked_of names)) (script_of session (asked_of names))) (both_true (1 == session))
 
   pub script_splits : (names rest : List Text) → script_of session (asked_of names) ++ script_of session (asked_of rest) ≡ script_of session (asked_of (names ++ rest))
   script_splits [] rest = refl
   script_splits (name ∷ names) rest = by (1 == session) (script_splits names rest)
     where
       by : (b : Bool) → script_of session (asked_of names) ++ script_of session (asked_of rest) ≡ script_of session (asked_of (names ++ rest))
-          → cond b (map_of name ∷ script_of session (asked_of names)) (script_of session (asked_of names)) ++ script_of session (asked_of rest)
-          ≡ cond b (map_of name ∷ script_of session (asked_of (names ++ rest))) (script_of session (asked_of (names ++ rest)))
-      by true more = ap (λ cs. map_of name ∷ cs) more
+          → cond b (map_command name ∷ script_of session (asked_of names)) (script_of session (asked_of names)) ++ script_of session (asked_of rest)
+          ≡ cond b (map_command name ∷ script_of session (asked_of (names ++ rest))) (script_of session (asked_of (names ++ rest)))
+      by true more = ap (λ cs. map_command name ∷ cs) more
       by false more = more
 
 -- each entry has a reply
@@ -103,6 +106,14 @@ promises_none [] (e ∷ history) all = absurd all
 promises_none (name ∷ names) [] all = absurd all
 promises_none (name ∷ names) (e ∷ history) all = (subst (Promises nothing_going e history) (sym all.0.reply) (promises_one e history all.0.answer), promises_none names history all.1)
 
+-- ---- none is an operation
+
+pub no_operations : (names : List Text) (history : List Entry) → AreAnswersTo names history → AllByRecursion (λ (e : Entry). e.operation ≡ 0) history
+no_operations [] [] all = tt
+no_operations [] (e ∷ history) all = absurd all
+no_operations (name ∷ names) [] all = absurd all
+no_operations (name ∷ names) (e ∷ history) all = (all.0.operation, no_operations names history all.1)
+
 -- ---- the last entry
 
 pub ends_answered : (history : List Entry) (e : Entry) → IsSome e.reply → EndsAnswered (history ++ e ∷ [])
@@ -122,32 +133,36 @@ replies_push sort history e =
     one true = refl
     one false = refl
 
--- where no entry of a history is answered `memory`, one more may be
+-- ---- at most one entry of a sort, which is the last
+
+module _ (Ends : List Entry → Type 0) (sort : Reply → Bool) (none : Ends []) (one : (e : Entry) → Ends (e ∷ [])) (more : (e f : Entry) (es : List Entry) → if_there sort e.reply ≡ false → Ends (f ∷ es) → Ends (e ∷ f ∷ es)) where
+  first : (x : Entry) (history : List Entry) → replies_of sort (x ∷ history) ≡ 0 → (if_there sort x.reply ≡ false) × (replies_of sort history ≡ 0)
+  first x history = by (if_there sort x.reply)
+    where
+      by : (b : Bool) → length (cond b (x ∷ filter (λ (y : Entry). if_there sort y.reply) history) (filter (λ (y : Entry). if_there sort y.reply) history)) ≡ 0 → (b ≡ false) × (replies_of sort history ≡ 0)
+      by true is = absurd (omega (arith, is))
+      by false is = (refl, is)
+
+  -- where no entry is of the sort, one more may be
+  pub only_last : (history : List Entry) (e : Entry) → replies_of sort history ≡ 0 → Ends (history ++ e ∷ [])
+  only_last [] e counted = one e
+  only_last (x ∷ []) e counted = more x e [] (first x [] counted).0 (one e)
+  only_last (x ∷ y ∷ history) e counted = let so = first x (y ∷ history) counted in more x y (history ++ e ∷ []) so.0 (only_last (y ∷ history) e so.1)
+
+  -- and none need be
+  pub not_once : (history : List Entry) → replies_of sort history ≡ 0 → Ends history
+  not_once [] counted = none
+  not_once (x ∷ []) counted = one x
+  not_once (x ∷ y ∷ history) counted = let so = first x (y ∷ history) counted in more x y history so.0 (not_once (y ∷ history) so.1)
+
 pub memory_last : (history : List Entry) (e : Entry) → replies_of is_memory history ≡ 0 → EndsWithMemory (history ++ e ∷ [])
-memory_last [] e none = tt
-memory_last (x ∷ history) e none = by (if_there is_memory x.reply) refl (memory_last history e)
-  where
-    first : (b : Bool) → length (cond b (x ∷ filter (λ (y : Entry). if_there is_memory y.reply) history) (filter (λ (y : Entry). if_there is_memory y.reply) history)) ≡ 0
-        → (b ≡ false) × (replies_of is_memory history ≡ 0)
-    first true is = absurd (omega (arith, is))
-    first false is = (refl, is)
-
-    behind : (hs : List Entry) → if_there is_memory x.reply ≡ false → EndsWithMemory (hs ++ e ∷ []) → EndsWithMemory (x ∷ (hs ++ e ∷ []))
-    behind [] is more = (is, more)
-    behind (y ∷ hs) is more = (is, more)
-
-    by : (b : Bool) → if_there is_memory x.reply ≡ b → (replies_of is_memory history ≡ 0 → EndsWithMemory (history ++ e ∷ [])) → EndsWithMemory (x ∷ (history ++ e ∷ []))
-    by b is more = let so = first (if_there is_memory x.reply) none in behind history so.0 (more so.1)
+memory_last = only_last EndsWithMemory is_memory tt (λ e. tt) (λ e f es no ends. (no, ends))
 
 pub memory_none : (history : List Entry) → replies_of is_memory history ≡ 0 → EndsWithMemory history
-memory_none [] none = tt
-memory_none (x ∷ []) none = tt
-memory_none (x ∷ y ∷ history) none = by (if_there is_memory x.reply) refl (memory_none (y ∷ history))
-  where
-    first : (b : Bool) → length (cond b (x ∷ filter (λ (z : Entry). if_there is_memory z.reply) (y ∷ history)) (filter (λ (z : Entry). if_there is_memory z.reply) (y ∷ history))) ≡ 0
-        → (b ≡ false) × (replies_of is_memory (y ∷ history) ≡ 0)
-    first true is = absurd (omega (arith, is))
-    first false is = (refl, is)
+memory_none = not_once EndsWithMemory is_memory tt (λ e. tt) (λ e f es no ends. (no, ends))
 
-    by : (b : Bool) → if_there is_memory x.reply ≡ b → (replies_of is_memory (y ∷ history) ≡ 0 → EndsWithMemory (y ∷ history)) → EndsWithMemory (x ∷ y ∷ history)
-    by b is more = let so = first (if_there is_memory x.reply) none in (so.0, more so.1)
+pub fault_last : (history : List Entry) (e : Entry) → replies_of is_fault history ≡ 0 → EndsWithFault (history ++ e ∷ [])
+fault_last = only_last EndsWithFault is_fault tt (λ e. tt) (λ e f es no ends. (no, ends))
+
+pub fault_none : (history : List Entry) → replies_of is_fault history ≡ 0 → EndsWithFault history
+fault_none = not_once EndsWithFault is_fault tt (λ e. tt) (λ e f es no ends. (no, ends))

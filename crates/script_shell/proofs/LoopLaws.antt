@@ -16,12 +16,12 @@ use Rattle.plain_model.specs.Headline.{faults, EndsAnswered, EndsWithMemory, has
 use Rattle.script_shell.specs.Scripts.{asked_of}
 use Rattle.script_shell.specs.Answering.{reply_of, IsLater}
 use Rattle.script_shell.specs.Going.{KeepsRun, KeepsContents, IsEntered, Asks, stop_of, refuses, is_refusal}
-use Rattle.script_shell.specs.Promises.{ends_early, is_of_commands, no_causes, Runs}
+use Rattle.script_shell.specs.Promises.{ends_early, is_of_commands, no_causes, EndsWithFault, Runs}
 use Rattle.script_shell.specs.declared.answers.Answer.{Answer}
 use Rattle.script_shell.specs.declared.answers.Answer.TheVariants as answers
 use Rattle.script_shell.specs.declared.answers.Outcome.{Outcome}
 use Rattle.script_shell.specs.declared.answers.Outcome.TheVariants.{Answered, Unasked, Unwritten}
-use Rattle.script_shell.proofs.HistoryLaws.{AreAnswersTo, answers_push, in_order, all_answered, promises_none, ends_answered, replies_push, memory_last, memory_none}
+use Rattle.script_shell.proofs.HistoryLaws.{AreAnswersTo, answers_push, in_order, all_answered, promises_none, ends_answered, replies_push, no_operations, memory_last, memory_none, fault_last, fault_none}
 use Rattle.script_shell.proofs.WholeLaws.{EndsWritten, holds_on_trail, holds_by_states, keeps_none, keeps_then, contents_then, later_same, later_then, store_rose_none, store_rose_one}
 
 -- the run after some commands, none of which met a fault or want of memory
@@ -63,7 +63,7 @@ module _ (script : List Text) (name : Text) (rest left : List Text) (old mid new
   module _ (answer : Answer) (added : IsEntered name answer mid new history after) where
     answered_more : AreAnswersTo (so.done ++ name ∷ []) after
     answered_more = subst (AreAnswersTo (so.done ++ name ∷ [])) (sym added.added)
-        (answers_push so.done history name added.entry so.answered (record { session = added.session; command = added.command; answer = answer; reply = added.reply }))
+        (answers_push so.done history name added.entry so.answered (record { session = added.session; command = added.command; answer = answer; reply = added.reply; operation = added.operation }))
 
     count_more : (sort : Reply → Bool) → replies_of sort after ≡ replies_of sort history + cond (sort (reply_of answer)) 1 0
     count_more sort = ap (replies_of sort) added.added ∙ replies_push sort history added.entry ∙ ap (λ r. replies_of sort history + cond (if_there sort r) 1 0) added.reply
@@ -73,6 +73,9 @@ module _ (script : List Text) (name : Text) (rest left : List Text) (old mid new
 
     memory_more : EndsWithMemory after
     memory_more = subst EndsWithMemory (sym added.added) (memory_last history added.entry so.no_memory)
+
+    fault_more : EndsWithFault after
+    fault_more = subst EndsWithFault (sym added.added) (fault_last history added.entry so.no_fault)
 
   -- the run goes on after an answer that is no fault and no want of memory
   pub so_far_more : (outcome : Outcome) → stop_of outcome ≡ None → Asks name mid new history after outcome → KeepsContents mid.told history new.told after → IsLater mid new
@@ -120,8 +123,8 @@ module _ (script : List Text) (name : Text) (rest left : List Text) (old mid new
 -- what makes the promises of a run
 finished : (script done rest : List Text) (old new : Outside) (history : List Entry) (unwritten : Text) (ending : RunStatus) → script ≡ done ++ rest → AreAnswersTo done history
     → KeepsRun old.told [] new.told history unwritten → EndsWritten unwritten ending history → KeepsContents old.told [] new.told history → IsLater old new
-    → (is_done ending ≡ true → rest ≡ []) → StoreRoseBy (faults history) old new → EndsWithMemory history → did_nothing ending ≡ false → Runs (asked_of script) old new history ending
-finished script done rest old new history unwritten ending split answered keeps written contents later all few memory did = record {
+    → (is_done ending ≡ true → rest ≡ []) → StoreRoseBy (faults history) old new → EndsWithMemory history → EndsWithFault history → did_nothing ending ≡ false → Runs (asked_of script) old new history ending
+finished script done rest old new history unwritten ending split answered keeps written contents later all few memory fault did = record {
   on_trail = holds_on_trail (asked_of script) old.told new history unwritten ending keeps (promises_none done history answered) written;
   by_states = holds_by_states (asked_of script) old.told new history ending contents (promises_none done history answered);
   in_order = in_order script done rest split history answered (ends_early ending);
@@ -132,6 +135,8 @@ finished script done rest old new history unwritten ending split answered keeps 
     nothing = λ is. let no : true ≡ false = sym is ∙ did in absurd cc;
     unchanged = λ is. let no : true ≡ false = sym is ∙ did in absurd cc;
   };
+  ends_with_fault = fault;
+  no_operations = no_operations done history answered;
   later = later;
 }
 
@@ -152,12 +157,12 @@ ends_all script rest old new before history refused ending none so all is = subs
 
     by : (b : Bool) → b ≡ nat_lt 0 (replies_of counts_as_refused history) → Ends script old new history (cond b status.Refused status.Done)
     by true some = (
-      finished script so.done rest old new history [] status.Refused so.split so.answered so.keeps (inl refl) contents so.later (λ done. all) few (memory_none history so.no_memory) refl,
+      finished script so.done rest old new history [] status.Refused so.split so.answered so.keeps (inl refl) contents so.later (λ done. all) few (memory_none history so.no_memory) (fault_none history so.no_fault) refl,
       (grind (arith, some), so.no_fault, so.no_memory),
       refl,
     )
     by false some = (
-      finished script so.done rest old new history [] status.Done so.split so.answered so.keeps (inl refl) contents so.later (λ done. all) few (memory_none history so.no_memory) refl,
+      finished script so.done rest old new history [] status.Done so.split so.answered so.keeps (inl refl) contents so.later (λ done. all) few (memory_none history so.no_memory) (fault_none history so.no_fault) refl,
       (grind (arith, some), so.no_fault, so.no_memory),
       refl,
     )
@@ -182,7 +187,8 @@ ends_stopped script name rest left old mid new before history after refused none
         (answered_more script name rest left old mid new before history after refused so next answer enters)
         (keeps_then old.told mid.told new.told history after unwritten so.keeps keeps) (ends written) whole onward
         (λ done. let no : true ≡ false = sym done ∙ not_done in absurd cc) (few answer enters)
-        (memory_more script name rest left old mid new before history after refused so next answer enters) did
+        (memory_more script name rest left old mid new before history after refused so next answer enters)
+        (fault_more script name rest left old mid new before history after refused so next answer enters) did
       where
         ends : (unwritten ≡ []) ⊎ (has_stopped ending ≡ true) → EndsWritten unwritten ending after
         ends (inl nothing) = inl nothing
@@ -208,7 +214,7 @@ ends_stopped script name rest left old mid new before history after refused none
         finished script so.done left old new after [] status.Memory so.split (subst (AreAnswersTo so.done) (sym same) so.answered)
         (subst (λ h. KeepsRun old.told [] new.told h []) (sym same) (subst (λ t. KeepsRun old.told [] t history []) (sym told) so.keeps)) (inl refl) whole onward
         (λ done. absurd cc) (subst (λ n. StoreRoseBy n old new) (sym (ap faults same ∙ so.no_fault)) (store_rose_none old new onward.faults))
-        (memory_none after (ap (replies_of is_memory) same ∙ so.no_memory)) refl
+        (memory_none after (ap (replies_of is_memory) same ∙ so.no_memory)) (fault_none after (ap faults same ∙ so.no_fault)) refl
 
     ends_now : (answer : Answer) → IsEntered name answer mid new history after → EndsAnswered after
     ends_now answer enters = ends_more script name rest left old mid new before history after refused so next answer enters

@@ -21,7 +21,7 @@ use Rattle.plain_model.specs.declared.replies.Refusal.{Refusal}
 use Rattle.plain_model.specs.declared.replies.Refusal.TheVariants as refused
 use Rattle.plain_model.specs.Refusing.{refusal, first_refusal}
 use Rattle.plain_model.specs.Steps.{refused_or_done}
-use Rattle.script_shell.specs.Scripts.{map_of}
+use Rattle.script_shell.specs.Scripts.{map_command}
 use Rattle.script_shell.specs.Answering.{refusal_of_map, after_map, standing_with, AnswersAt, CommitsAt, AnswersMap, CommitsMap, map_commit}
 use Rattle.script_shell.specs.declared.answers.Answer.{Answer}
 use Rattle.script_shell.specs.declared.answers.Answer.TheVariants.{Ok, MapExists, Full, Fault, Memory}
@@ -109,7 +109,7 @@ module _ (name : Text) where
     becomes : (connections : Connections) → standing_with (after_one image (map_commit name true)) connections ≡ after_map (standing_with image connections) name
     becomes connections =
         ap (λ (b : PlainState). with_connections b connections) (meaning-put_map image sound name Range Int new)
-        ∙ sym (ap (λ r. (refused_or_done holds_nothing (standing_with image connections) 1 (map_of name) r).0) (accepts connections))
+        ∙ sym (ap (λ r. (refused_or_done holds_nothing (standing_with image connections) 1 (map_command name) r).0) (accepts connections))
 
     commits_ok : CommitsAt name Ok true image
     commits_ok = record { sound = map_keeps_sound image sound name Range Int new; follows = λ connections. (accepts connections, becomes connections) }

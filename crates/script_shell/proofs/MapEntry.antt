@@ -14,7 +14,7 @@ use Rattle.plain_model.specs.Timelines.{Timeline, Past, image_of, facts_of, happ
 use Rattle.plain_model.specs.Follows.{Follows}
 use Rattle.plain_model.specs.OnTrail.{OnTrail}
 use Rattle.plain_model.specs.Legal.{MayEnter}
-use Rattle.script_shell.specs.Scripts.{map_of}
+use Rattle.script_shell.specs.Scripts.{map_command}
 use Rattle.script_shell.specs.Answering.{reply_of, refusal_of_map, MapFollows, standing_with}
 use Rattle.script_shell.specs.declared.answers.Answer.{Answer}
 use Rattle.script_shell.specs.declared.answers.Answer.TheVariants.{Ok, MapExists, Full, Fault, Memory}
@@ -22,14 +22,14 @@ use Rattle.script_shell.specs.declared.answers.Answer.TheVariants.{Ok, MapExists
 module _ (name : Text) (m moment : ℕ) where
   -- the entry of a command that was opened at moment m
   abbrev pub entry_of : Answer → Entry
-  entry_of answer = settled (opened 1 (map_of name) m) (Some (reply_of answer)) moment 0
+  entry_of answer = settled (opened 1 (map_command name) m) (Some (reply_of answer)) moment 0
 
   module _ (A B : PlainState) where
     -- what the plain step is, by its refusal
-    step_is : (r : Option Refusal) → refusal_of_map A name ≡ r → plain_step holds_nothing A 1 (map_of name) ≡ refused_or_done holds_nothing A 1 (map_of name) r
-    step_is r is = ap (refused_or_done holds_nothing A 1 (map_of name)) is
+    step_is : (r : Option Refusal) → refusal_of_map A name ≡ r → plain_step holds_nothing A 1 (map_command name) ≡ refused_or_done holds_nothing A 1 (map_command name) r
+    step_is r is = ap (refused_or_done holds_nothing A 1 (map_command name)) is
 
-    refused_step : (r : Refusal) → refusal_of_map A name ≡ Some r → B ≡ A → plain_step holds_nothing A 1 (map_of name) ≡ (B, reply.Refused r)
+    refused_step : (r : Refusal) → refusal_of_map A name ≡ Some r → B ≡ A → plain_step holds_nothing A 1 (map_command name) ≡ (B, reply.Refused r)
     refused_step r is same = step_is (Some r) is ∙ ap (λ (s : PlainState). (s, reply.Refused r)) (sym same)
 
     pub map_follows : (past : Past) (answer : Answer) → MapFollows A name B answer → Follows past A (entry_of answer) B (Some (reply_of answer))

@@ -1,6 +1,6 @@
 -- How what is taken of a source adds up.
 use Rattle.std.proofs.Common.{◌≡◌, ◌++◌, ◌≤◌, ◌<◌, ◌-◌, ℕ, [], length, take, drop, Option, Some, None, refl, sym, ap, ◌∙◌, subst, arith, cond, false}
-use Rattle.std.specs.Prelude.{Result, Ok, Err, is_ok, is_err}
+use Rattle.std.specs.Prelude.{Result, Ok, Err, is_ok, is_err, option_map}
 use Rattle.std.proofs.lemmas.List.{append-nil, append_assoc, take-append-drop, length-append, length-take, length-take-le, take_at}
 use Rattle.cell_world.specs.Texts.{Text}
 use Rattle.cell_world.specs.Outside.{TakesFront, Takes}
@@ -17,13 +17,11 @@ taken_all (Some left) b c bytes buffer n zero taken takes =
     let front : TakesFront n taken.0 c buffer = subst (λ o. Takes n o c buffer) taken.1 takes in
     taken.2 ∙ ap (λ r. bytes ++ r) (front.none zero) ∙ append-nil bytes
 
-pub nothing_left : (a b c : Option Text) (bytes buffer : Text) (n : ℕ) → n ≡ 0 → WereTaken a b bytes → Takes n b c buffer → IfTold c []
-nothing_left None b c bytes buffer n zero taken takes =
-    let none : c ≡ None = subst (λ o. Takes n o c buffer) taken takes in
-    subst (λ o. IfTold o []) (sym none) tt
+pub nothing_left : (a b c : Option Text) (bytes buffer : Text) (n : ℕ) → n ≡ 0 → WereTaken a b bytes → Takes n b c buffer → c ≡ option_map (λ b. []) a
+nothing_left None b c bytes buffer n zero taken takes = let none : c ≡ None = subst (λ o. Takes n o c buffer) taken takes in none
 nothing_left (Some left) b c bytes buffer n zero taken takes =
     let front : TakesFront n taken.0 c buffer = subst (λ o. Takes n o c buffer) taken.1 takes in
-    subst (λ o. IfTold o []) (sym (front.rest ∙ ap (λ k. Some (drop k taken.0)) zero ∙ ap (λ r. Some r) (front.none zero))) refl
+    front.rest ∙ ap (λ k. Some (drop k taken.0)) zero ∙ ap (λ r. Some r) (front.none zero)
 
 -- some more is taken
 pub taken_more : (a b c : Option Text) (bytes more buffer : Text) (n : ℕ) → WereTaken a b bytes → Takes n b c buffer → more ≡ bytes ++ take n buffer → WereTaken a c more

@@ -15,11 +15,12 @@ use Rattle.cell_world.specs.declared.changes.Edit.TheVariants.{Put}
 use Rattle.cell_world.specs.declared.outside.WorldError.TheVariants as error
 use Rattle.plain_model.specs.declared.replies.Reply.{Reply}
 use Rattle.plain_model.specs.declared.replies.Reply.TheVariants as reply
+use Rattle.plain_model.specs.declared.replies.Refusal.{Refusal}
 use Rattle.plain_model.specs.declared.replies.Refusal.TheVariants as refused
 use Rattle.plain_model.specs.Refusing.{refusal}
 use Rattle.plain_model.specs.Steps.{plain_step}
 use Rattle.plain_model.specs.Lines.{reply_lines}
-use Rattle.script_shell.specs.Scripts.{map_of}
+use Rattle.script_shell.specs.Scripts.{map_command}
 use Rattle.script_shell.specs.declared.answers.Answer.{Answer}
 use Rattle.script_shell.specs.declared.answers.Answer.TheVariants.{Ok, MapExists, Full, Fault, Memory}
 use Rattle.script_shell.specs.declared.answers.Outcome.{Outcome}
@@ -40,11 +41,11 @@ line_of answer = reply_lines None (reply_of answer)
 
 -- what session 1's command makes of a state
 abbrev pub after_map : PlainState → Text → PlainState
-after_map A name = (plain_step holds_nothing A 1 (map_of name)).0
+after_map A name = (plain_step holds_nothing A 1 (map_command name)).0
 
 -- the refusal that it gets there, if it is refused
-abbrev pub refusal_of_map : PlainState → Text → Option Rattle.plain_model.specs.declared.replies.Refusal.Refusal
-refusal_of_map A name = refusal A 1 (map_of name)
+abbrev pub refusal_of_map : PlainState → Text → Option Refusal
+refusal_of_map A name = refusal A 1 (map_command name)
 
 -- the answer says how the state B after the command comes of the state A before it
 abbrev pub MapFollows : PlainState → Text → PlainState → Answer → Type 0
@@ -74,7 +75,9 @@ AnswersAt name answer image = (connections : Connections) → MapFollows (standi
 
 -- on this image, if it is sound, the answer follows with the commit, which keeps it sound
 pub record CommitsAt (name : Text) (answer : Answer) (took : Bool) (image : Image) : Type 0 where
+  -- the stores are sound after it
   pub sound : Sound (after_one image (map_commit name took))
+  -- and stand for what follows, whoever is connected
   pub follows : (connections : Connections) → MapFollows (standing_with image connections) name (standing_with (after_one image (map_commit name took)) connections) answer
 
 -- At most the one commit happens, and the answer follows.
@@ -85,10 +88,10 @@ AnswersMap old new name answer =
 
 -- The same world later: its locations are the same, and no count fell.
 pub record IsLater (old new : Outside) : Type 0 where
-  pub locations : new.locations ≡ old.locations
-  pub faults : NeverFall old.faults_at new.faults_at
-  pub sink : old.sink_faults ≤ new.sink_faults
-  pub reads : old.global_reads ≤ new.global_reads
+  pub locations : new.locations ≡ old.locations  -- it knows the same ones, in the same order
+  pub faults : NeverFall old.faults_at new.faults_at  -- of the calls at each site
+  pub sink : old.sink_faults ≤ new.sink_faults  -- of the writes
+  pub reads : old.global_reads ≤ new.global_reads  -- how often the global store was read
 
 -- ---- what the writing of its line does
 

@@ -14,7 +14,7 @@ use Rattle.plain_model.specs.Written.{EachReply}
 use Rattle.plain_model.specs.Running.{Owing}
 use Rattle.plain_model.specs.RunningAlone.{RunningAlone, entries_of}
 use Rattle.plain_model.specs.Headline.{GoesOnFrom}
-use Rattle.script_shell.specs.Scripts.{map_of}
+use Rattle.script_shell.specs.Scripts.{map_command}
 use Rattle.script_shell.specs.Answering.{reply_of}
 use Rattle.script_shell.specs.declared.answers.Answer.{Answer}
 use Rattle.script_shell.specs.declared.answers.Answer.TheVariants as answers
@@ -25,17 +25,20 @@ use Rattle.script_shell.specs.declared.answers.Outcome.TheVariants.{Answered, Un
 
 -- The run so far: it began at moment t0 with these stores, its trail and history are these, and this is still to be written.
 pub record RunsOn (t0 : ℕ) (start : Image) (trail : Trail) (history : List Entry) (rest : Text) : Type 0 where
-  pub began : t0 ≤ end_of_trail trail
-  pub starts : image_at trail t0 ≡ start
-  -- what came in which order, with the connections now
+  pub began : t0 ≤ end_of_trail trail  -- at a moment of the trail
+  pub starts : image_at trail t0 ≡ start  -- where the stores were these
+  -- what came in which order
   pub past : Timeline
+  -- who is connected now
   pub connections : Connections
-  pub happened : happened_of past ≡ drop t0 trail.happened
-  pub entries : history_of past ≡ history
+  pub happened : happened_of past ≡ drop t0 trail.happened  -- what happened since is on the trail
+  pub entries : history_of past ≡ history  -- and what was entered in the history
+  -- each step was allowed, and of the lines of the entries all but the rest is written
   pub owing : Owing t0 start (EachReply false) past connections rest
 
 -- the trail that is told goes on from this one, and the run with it
 pub record HasGoneOn (t0 : ℕ) (start : Image) (before : Trail) (new : Told) (history : List Entry) (rest : Text) : Type 0 where
+  -- the trail now
   pub trail : Trail
   pub told : new ≡ TellsTrail trail
   pub goes_on : GoesOnFrom before trail
@@ -49,12 +52,16 @@ KeepsRun old history new after rest = (t0 : ℕ) (start : Image) (trail : Trail)
 
 -- The run so far: it began with the first image, it stands at this one, and its history is this.
 pub record RunsTo (first image : Image) (history : List Entry) : Type 0 where
+  -- the entries, each with the state before it
   pub past : Past
+  -- who is connected now
   pub connections : Connections
-  pub entries : entries_of past ≡ history
-  pub run : RunningAlone first past connections image
+  pub entries : entries_of past ≡ history  -- they are those of the history
+  pub run : RunningAlone first past connections image  -- each follows from the state before it, up to this image
 
+-- the contents that are told are those to which the run came
 pub record HasGoneTo (first : Image) (new : Told) (history : List Entry) : Type 0 where
+  -- the contents now
   pub image : Image
   pub told : new ≡ TellsContents image
   pub runs : RunsTo first image history
@@ -66,11 +73,13 @@ KeepsContents old history new after = (first image : Image) → old ≡ TellsCon
 
 -- it was answered so: its entry stands at the end of the history
 pub record IsEntered (name : Text) (answer : Answer) (old new : Outside) (history after : List Entry) : Type 0 where
+  -- the new entry
   pub entry : Entry
-  pub session : entry.session ≡ 1
-  pub command : entry.command ≡ map_of name
-  pub reply : entry.reply ≡ Some (reply_of answer)
-  pub added : after ≡ history ++ entry ∷ []
+  pub session : entry.session ≡ 1  -- of the one session
+  pub command : entry.command ≡ map_command name  -- it is this command
+  pub reply : entry.reply ≡ Some (reply_of answer)  -- with this answer
+  pub operation : entry.operation ≡ 0  -- the command is no operation
+  pub added : after ≡ history ++ entry ∷ []  -- it is the only new one
   -- a fault has its cause at the global store
   pub cause : answer ≡ answers.Fault → Rose (old.faults_at 0) (new.faults_at 0)
 

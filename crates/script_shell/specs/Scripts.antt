@@ -13,8 +13,8 @@ use Rattle.script_shell.specs.declared.script.ScriptStop.TheVariants as stop
 -- ---- lines
 
 -- the command of a line
-abbrev pub map_of : Text → Command
-map_of name = command.Map name Range Int
+abbrev pub map_command : Text → Command
+map_command name = command.Map name Range Int
 
 -- its bytes, with one space between two words, and a line feed
 abbrev pub map_line : Text → Text
@@ -35,7 +35,7 @@ pub record IsScript (bytes : Text) (names : List Text) : Type 0 where
 
 -- each line is a command of session 1
 abbrev pub asked_of : List Text → List Asked
-asked_of names = map (λ name. record { session = 1; command = map_of name }) names
+asked_of names = map (λ name. record { session = 1; command = map_command name }) names
 
 -- ---- faulty lines
 

@@ -18,7 +18,9 @@ const SESSION: u32 = 1;
 
 /// A world, and the history of what was asked of it.
 pub struct Core<W: World> {
+    /// The stores and the output.
     pub world: W,
+    /// The commands so far with their answers, in order.
     pub history: History,
 }
 

@@ -1,13 +1,13 @@
 //! The bytes of the script.
-ghost use Rattle.std.specs.Prelude.{◌≡◌, ◌≤◌, ◌<◌, [], length, IfOk, IsErrOf};
+ghost use Rattle.std.specs.Prelude.{◌≡◌, ◌≤◌, ◌<◌, [], length, option_map, IfOk, IsErrOf};
 ghost use Rattle.cell_world.specs.Counts.{Rose};
-ghost use Rattle.script_shell.specs.Sources.{IfTold, HasMore};
+ghost use Rattle.script_shell.specs.Sources.{script_limit, IfTold, HasMore, TookAtMost};
 
 use cell_world::outside::{Source, SourceError};
 use std::alloc::Global;
 
 /// The most bytes of a script.
-pub const SCRIPT_BYTES: usize = 1_048_576;
+const SCRIPT_BYTES: usize = 1_048_576;
 
 /// How many bytes are asked for at once.
 const BUFFER_BYTES: usize = 4_096;
@@ -23,13 +23,14 @@ pub enum ReadStop {
     Memory,
 }
 
-/// All bytes of the source, where they are no more than a script may have. Each turn of the loop takes at least one.
+/// All bytes of the source, where they are no more than a script may have. Each turn but the last takes at least one.
 pub fn read_all<S: Source>(alloc: Global, source: &mut S) -> Result<Vec<u8>, ReadStop>
     ensures all { IfOk result (λ bytes. IfTold (S.left source.old) bytes.items) }
-    ensures drained { IfOk result (λ bytes. IfTold (S.left source.new) []) }
-    ensures short { IfOk result (λ bytes. length bytes.items ≤ 1048576) }
-    ensures long { IsErrOf result ReadStop.TooLong → HasMore 1048576 (S.left source.old) }
+    ensures drained { IfOk result (λ bytes. S.left source.new ≡ option_map (λ b. []) (S.left source.old)) }
+    ensures short { IfOk result (λ bytes. length bytes.items ≤ script_limit) }
+    ensures long { IsErrOf result ReadStop.TooLong → HasMore script_limit (S.left source.old) }
     ensures fault { IsErrOf result ReadStop.Fault → Rose (S.faults source.old) (S.faults source.new) }
+    ensures in_time { IsErrOf result ReadStop.Fault → TookAtMost script_limit (S.left source.old) (S.left source.new) }
     ensures falls { S.faults source.old ≤ S.faults source.new }
 {
     let Ok(mut buffer) = vec![in alloc; 0u8; BUFFER_BYTES] else {

@@ -43,9 +43,8 @@ pub fn run_commands<W: World>(alloc: Global, core: &mut Core<W>, script: Vec<Nam
     let mut refused = false;
     for name in script {
         let outcome = core.ask(alloc, name);
-        match stopped(outcome) {
-            Some(status) => return status,
-            None => {}
+        if let Some(status) = stopped(outcome) {
+            return status;
         }
         refused = refused || was_refused(outcome);
     }

@@ -50,7 +50,9 @@ fn name_length(bytes: &[u8]) -> usize
 /// The name in a line, and what is behind the line.
 #[derive(Clone, Copy)]
 struct Line<'a> {
+    /// The name of the map.
     name: Name,
+    /// The lines that follow.
     after: &'a [u8],
 }
 

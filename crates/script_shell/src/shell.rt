@@ -24,7 +24,8 @@ fn unstarted(alloc: Global, status: RunStatus) -> Finish
 
 /// Reads a script and runs its commands in order. For now no words are accepted.
 ///
-/// It has no handle `Wait`, and it always returns: each turn of its reading takes at least one byte, of at most 1,048,577.
+/// It has no handle `Wait`, and it always returns: each turn of its reading but the last takes at least one byte, and
+/// the turn that passes 1,048,576 bytes is the last.
 pub fn run_script<W: World, S: Source>(
     alloc: Global,
     words: &Vec<String>,
@@ -33,6 +34,7 @@ pub fn run_script<W: World, S: Source>(
 ) -> (Finish, W)
     // From a sound image on: the stores are sound at each moment of the call, the history is legal, only what happened is written,
     // each command was asked once and in order, and the status has its cause.
+    // Bad words are found before the source is touched, and for the statuses 2, 3 and 7 the world is handed back as it was.
     ensures promises { RunsScript words.now.items (S.left source.old) (S.left source.new) (S.faults source.old) (S.faults source.new)
         (W.outside world) (W.outside result.1) result.0.history result.0.status }
     // Without words, with a script that fits, and where no count rose, only want of memory keeps the script from being run to its end.

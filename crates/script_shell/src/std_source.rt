@@ -7,9 +7,10 @@ use cell_world::outside::{Source, SourceError};
 use std::alloc::Global;
 use std::io::Read;
 
-/// A reader as a source. It tells nothing of what is left.
+/// A reader as a source. It tells nothing of what is left. An interrupted read counts as a fault.
 #[derive(Drop)]
 pub struct StdSource<I: Read + Drop> {
+    /// What is read.
     input: I,
     /// How often reading has failed.
     faults: u64,

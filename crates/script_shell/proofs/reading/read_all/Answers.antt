@@ -1,5 +1,6 @@
 use Rattle.std.proofs.Common.{rules, arith, sym, ◌∙◌, ap, length}
 use Rattle.std.proofs.lemmas.Grind.{common_steps}
+use Rattle.script_shell.specs.Sources.{script_limit}
 use Rattle.script_shell.proofs.SourceLaws.{taken_none, taken_all, nothing_left, taken_more, taken_long, extended}
 use Rattle.script_shell.proofs.reading.read_all.Goals as goal
 
@@ -18,7 +19,7 @@ pub returns-in-Ok-eq0-clause-drained : goal.returns-in-Ok-eq0-clause-drained
 returns-in-Ok-eq0-clause-drained g c = nothing_left _ _ _ _ _ _ (search rules) c.loop-bytes.invariant.taken c.in-Ok-eq0.ensures.taken
 
 pub returns-then-taken-len-clause-long : goal.returns-then-taken-len-clause-long
-returns-then-taken-len-clause-long g c = λ _. taken_long _ _ _ _ _ c.in-Ok-take.taken 1048576 c.loop-bytes.invariant.taken c.in-Ok-take.ensures.taken (omega (arith, c.in-Ok-take.ensures.fits, c.take.auto.into)) (omega (arith, c.if-taken-len.true, c.len.ensures, c.loop-bytes.bytes.ok.0)) (omega (arith, c.loop-bytes.invariant.short, c.loop-bytes.bytes.ok.0))
+returns-then-taken-len-clause-long g c = λ _. taken_long _ _ _ _ _ c.in-Ok-take.taken script_limit c.loop-bytes.invariant.taken c.in-Ok-take.ensures.taken (omega (arith, c.in-Ok-take.ensures.fits, c.take.auto.into)) (omega (arith, c.if-taken-len.true, c.len.ensures, c.loop-bytes.bytes.ok.0)) (omega (arith, c.loop-bytes.invariant.short, c.loop-bytes.bytes.ok.0))
 
 pub loop-bytes-preserved : goal.loop-bytes-preserved
 loop-bytes-preserved g c = record {

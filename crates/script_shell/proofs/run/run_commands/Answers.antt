@@ -20,12 +20,12 @@ returns-in-Some-stopped-clause-cause g c =
 
 pub loop-name-preserved-then-refused : goal.loop-name-preserved-then-refused
 loop-name-preserved-then-refused g c =
-    let more = so_far_more _ _ _ _ _ _ _ _ _ _ _ c.loop-name.invariant.so_far c.in-Some.ensures.steps.0 c.ask-outcome.result (sym c.stopped.ensures ∙ c.in-None-stopped.is) c.ask-outcome.ensures.asks c.ask-outcome.ensures.contents c.ask-outcome.ensures.later in
+    let more = so_far_more _ _ _ _ _ _ _ _ _ _ _ c.loop-name.invariant.so_far c.in-Some.ensures.steps.0 c.ask-outcome.result (sym c.stopped.ensures ∙ c.in_default.is) c.ask-outcome.ensures.asks c.ask-outcome.ensures.contents c.ask-outcome.ensures.later in
     record { can = tt; finite = tt; so_far = subst (SoFar _ _ _ _ _ _) (ap (λ b. b || refuses c.ask-outcome.result) c.if-refused.true ∙ sym c.if-refused.true) more }
 
 pub loop-name-preserved : goal.loop-name-preserved
 loop-name-preserved g c =
-    let more = so_far_more _ _ _ _ _ _ _ _ _ _ _ c.loop-name.invariant.so_far c.in-Some.ensures.steps.0 c.ask-outcome.result (sym c.stopped.ensures ∙ c.in-None-stopped.is) c.ask-outcome.ensures.asks c.ask-outcome.ensures.contents c.ask-outcome.ensures.later in
+    let more = so_far_more _ _ _ _ _ _ _ _ _ _ _ c.loop-name.invariant.so_far c.in-Some.ensures.steps.0 c.ask-outcome.result (sym c.stopped.ensures ∙ c.in_default.is) c.ask-outcome.ensures.asks c.ask-outcome.ensures.contents c.ask-outcome.ensures.later in
     record { can = tt; finite = tt; so_far = subst (SoFar _ _ _ _ _ _) (ap (λ b. b || refuses c.ask-outcome.result) c.if-refused.false ∙ sym c.was_refused-refused.ensures) more }
 
 pub returns-then-refused-2-clause-runs : goal.returns-then-refused-2-clause-runs
