@@ -1,5 +1,5 @@
 #!/bin/sh
-# Times the proved program from outside, on 1,000 and on 16,000 commands, and prints the times per command and their ratio.
+# Times the proved program from outside, on 1,000 and on 16,000 commands, less a run without commands, and prints the times per command and their ratio.
 # Run it at the top of the repository, after `rt ci` or `rt run` in crates/shardctl has built the program.
 # Arguments: the number of runs of each (default 5); the best of them counts.
 set -eu
@@ -31,10 +31,12 @@ least() {
     echo "$best"
 }
 
+script 0
 script 1000
 script 16000
-few=$(least 1000)
-many=$(least 16000)
+none=$(least 0)
+few=$(($(least 1000) - none))
+many=$(($(least 16000) - none))
 awk -v few="$few" -v many="$many" 'BEGIN {
     a = few / 1000; b = many / 16000
     printf "1000 commands: %.0f ns a command\n16000 commands: %.0f ns a command\nratio: %.2f\n", a, b, b / a

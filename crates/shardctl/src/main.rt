@@ -9,24 +9,29 @@ use plain_model::finish::RunStatus;
 use program::run;
 use script_shell::endings::{exit_number, standard_error_line};
 use std::env;
-use std::io::Write;
+use std::io::{ErrorKind, Write};
 use std::process::ExitCode;
 
 fn main(rt: HostRuntime) -> ExitCode {
     let mut words: Vec<String> = Vec::new(rt.alloc());
-    let mut room = true;
+    let mut unread = None;
     match env::args(&rt) {
         Ok(args) => {
             for word in args.skip(1) {
-                room = room && words.push(word).is_ok();
+                if words.push(word).is_err() {
+                    unread = Some(RunStatus::Memory);
+                }
             }
         }
-        Err(_) => room = false,
+        // No word is accepted yet, so one that isn't UTF-8 is bad at its place, the first.
+        Err(error) if error.kind() == ErrorKind::InvalidData => unread = Some(RunStatus::BadWords(
+            1,
+        )),
+        Err(_) => unread = Some(RunStatus::Memory),
     }
-    let status = if room {
-        run(rt.alloc(), &words, rt.stdin(), &mut rt.stdout())
-    } else {
-        RunStatus::Memory
+    let status = match unread {
+        Some(status) => status,
+        None => run(rt.alloc(), &words, rt.stdin(), &mut rt.stdout()),
     };
     if let Ok(line) = standard_error_line(rt.alloc(), b"shardctl", &status) {
         let _told = rt.stderr().write_all(line.as_slice());

@@ -1,4 +1,9 @@
 //! The program over any words, input and output.
+ghost use Rattle.std.specs.Prelude.{◌≡◌, IfOk, []};
+ghost use Rattle.cell_world.specs.Images.{empty_image};
+ghost use Rattle.world_memory.specs.Memory.{outside_of};
+ghost use Rattle.world_memory.specs.Told.{fresh};
+
 use cell_world::items::Memory;
 use plain_model::finish::RunStatus;
 use script_shell::shell::run_script;
@@ -8,7 +13,9 @@ use std::io::{Read, Write};
 use world_memory::world::MemoryWorld;
 
 /// A world without locations, in which nothing happened yet.
-pub fn empty_world(alloc: Global) -> Result<MemoryWorld, Memory> {
+pub fn empty_world(alloc: Global) -> Result<MemoryWorld, Memory>
+    ensures { IfOk result (λ world. outside_of world ≡ fresh [] (empty_image [])) }
+{
     MemoryWorld::new(alloc, &[])
 }
 
