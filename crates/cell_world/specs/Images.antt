@@ -20,7 +20,7 @@ same_place (Shard a) Global = false
 
 pub record Image : Type 0 where
   pub locations : List Text  -- those of the world, each with a store of its own
-  pub at : Place → Store
+  pub at : Place → Store  -- what each place holds
 
 abbrev pub global : Image → Store
 global image = image.at Global

@@ -126,8 +126,9 @@ IsOver locations (TellsContents image) = image.locations ≡ locations
 IsOver locations (TellsTrail trail) = trail.start.locations ≡ locations
 
 pub record IsWorld (o : Outside) : Type 0 where
-  -- the locations are distinct, and at most 64
+  -- each location is one by its grammar
   pub spelled : AllByRecursion (λ location. IsTrue (is_location location)) o.locations
+  -- they are distinct, and at most 64
   pub distinct : IsDistinct same o.locations
   pub few : length o.locations ≤ 64
   -- each count is kept in 64 bits

@@ -14,15 +14,15 @@ use Rattle.cell_world.specs.declared.operations.Piece.{Piece}
 -- what a site that is not attached holds
 pub record Held : Type 0 where
   pub locals : Locals  -- with their marks
-  pub rows : Rows
+  pub rows : Rows  -- its row cells
 
 abbrev pub holds_nothing : Held
 holds_nothing = record { locals = map.empty; rows = map.empty }
 
 -- a session's way to the rows under one key
 pub record Connection : Type 0 where
-  pub map : Text
-  pub key : Text
+  pub map : Text  -- the map that was named
+  pub key : Text  -- the key, a normal form
   pub location : Text  -- the owner's, when it was opened
   pub live : Bool  -- false once it was ended
 
@@ -45,7 +45,7 @@ pub record PlainState : Type 0 where
   pub away : AwaySites  -- the sites that are not attached
   pub rows : Rows  -- those whose owner's site is attached
   pub held : Text → Held  -- by location: what a site that is not attached holds
-  pub connections : Connections
+  pub connections : Connections  -- by session and number
 
 abbrev pub with_connections : PlainState → Connections → PlainState
 with_connections s connections = record s { connections = connections }

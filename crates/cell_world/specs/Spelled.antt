@@ -56,6 +56,7 @@ IsSpan (Point at) = IsTrue (is_key_form at)
 abbrev pub IsToken : Token → Type 0
 IsToken token = token.0 < 2 ^ 128
 
+-- a mapping's map, span, location and token
 pub record IsPiece (p : Piece) : Type 0 where
   pub map : IsTrue (is_name p.map)
   pub span : IsSpan p.span
@@ -70,6 +71,7 @@ IsPhase phase.Idle = Unit {0}
 IsPhase (phase.Copying end) = IsEnd end
 IsPhase (phase.Moved end) = IsEnd end
 
+-- a job's number, map, range, sites, batch, cursor and phase
 pub record IsJob (job : JobRow) : Type 0 where
   pub number : job.number < 2 ^ 32
   pub map : IsTrue (is_name job.map)
@@ -86,6 +88,7 @@ IsExtra extra.None = Unit {0}
 IsExtra (extra.JobPut job) = IsJob job
 IsExtra (extra.JobDrop number) = number < 2 ^ 32
 
+-- an operation's number, map, hull, mappings and job
 pub record IsOp (op : Op) : Type 0 where
   pub number : op.number < 2 ^ 64
   pub map : IsTrue (is_name op.map)
@@ -99,6 +102,7 @@ IsMarkValue mark.Plain = Unit {0}
 IsMarkValue (mark.Old number) = number < 2 ^ 64
 IsMarkValue mark.New = Unit {0}
 
+-- a local row's map, span, number and mark
 pub record IsLocalRow (row : LocalRow) : Type 0 where
   pub map : IsTrue (is_name row.map)
   pub span : IsSpan row.span
@@ -109,6 +113,7 @@ pub record AreCounters (counters : Counters) : Type 0 where
   pub operation : counters.operation < 2 ^ 64
   pub job : counters.job < 2 ^ 32
 
+-- a row's map, key, table and number
 pub record IsRowName (row : RowName) : Type 0 where
   pub map : IsTrue (is_name row.map)
   pub key : IsTrue (is_key_form row.key)
@@ -130,8 +135,8 @@ IsTyped (cell.Row row bytes) = IsRowName row × IsTrue (is_row_value bytes)
 
 -- The value is a cell that can be spelled.
 pub record IsCell (c : Cell) : Type 0 where
-  pub typed : IsTyped c
-  pub spelled : IsTrue (is_spelled c)
+  pub typed : IsTyped c  -- by the program's types
+  pub spelled : IsTrue (is_spelled c)  -- and by what they don't keep
 
 -- The value is one of the program's type `CellKey`.
 abbrev pub IsTypedKey : CellKey → Type 0

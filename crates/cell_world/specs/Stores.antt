@@ -156,15 +156,18 @@ Stands s c = cell_at s (own_key c) ≡ Some c
 
 -- Each cell stands under its own key.
 pub record IsKeyed (s : Store) : Type 0 where
+  -- a mapping by its map and low key
   pub mappings : (k : Text × Text) → IfSome (map.get s.mappings k) (λ p. piece_key p ≡ k)
+  -- an operation and a job by their numbers
   pub log : (k : ℕ) → IfSome (map.get s.log k) (λ op. op.number ≡ k)
   pub jobs : (k : ℕ) → IfSome (map.get s.jobs k) (λ job. job.number ≡ k)
+  -- a local row by its map, low key and number; the other kinds have nothing but their key fields in them twice
   pub locals : (k : Text × (Text × ℕ)) → IfSome (map.get s.locals k) (λ row. local_key row ≡ k)
 
 -- Nothing but cells stands in the store, each under its own key.
 pub record IsStore (s : Store) : Type 0 where
-  pub keyed : IsKeyed s
-  pub cells : (c : Cell) → Stands s c → IsCell c
+  pub keyed : IsKeyed s  -- each under its own key
+  pub cells : (c : Cell) → Stands s c → IsCell c  -- and nothing but cells
 
 -- ---- mappings that replace others
 

@@ -19,9 +19,9 @@ use Rattle.plain_model.specs.Refusing.{key_in, type_of_map, mapping_of}
 
 -- a span that was learnt
 pub record Learnt : Type 0 where
-  pub map : Text
+  pub map : Text  -- of this map
   pub type : KeyType  -- of the map's keys
-  pub span : Span
+  pub span : Span  -- these keys
   pub location : Text  -- the owner's then
   pub place : ℕ  -- the number of entries before the one that learnt it
 

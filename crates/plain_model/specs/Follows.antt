@@ -107,6 +107,7 @@ pub record FollowsDone (past : Past) (A B : PlainState) (e : Entry) (number : â„
   pub same : A â‰¡ B
   -- the entry just before is this session's finish of the job
   pub just_before : JustBefore past e.session number is_finish_step
+  -- a `step` made one batch at most
   pub one_batch : IsOneBatch e.command (onlines_since past e.session)
 
 -- ---- `pending P`

@@ -178,7 +178,7 @@ KeepsPromises going (e ∷ later) = Promises going e later e.reply × KeepsPromi
 
 -- The history is legal on the trail from its start, which is moment `since`; each session has this going at the end.
 pub record Legal (since : ℕ) (trail : Trail) (going : AllGoing) (history : List Entry) : Type 0 where
-  -- what came in which order
+  -- what came in which order: just what happened, and just these entries
   pub timeline : Timeline
   pub happened : happened_of timeline ≡ trail.happened
   pub entries : history_of timeline ≡ history

@@ -52,7 +52,7 @@ written_of (Entered e ∷ past) = written_of past
 
 -- an entry
 pub record Made : Type 0 where
-  pub entry : Entry
+  pub entry : Entry  -- as it stands in the history
   pub before : PlainState  -- the state before it, but for connections
 
 -- The latest comes first.

@@ -85,7 +85,9 @@ surely_written (Entered e ∷ past) = if is_some e.reply then history_of past el
 
 -- the bytes so far have the lines of all entries but the last answered one, and no more than those of all
 pub record LinesSoFar (tagged : Bool) (past : Timeline) : Type 0 where
+  -- the lines of all entries but the last answered one are written
   pub enough : IsPrefixOf (lines tagged (surely_written past)) (written_of past)
+  -- and no more than the lines of all
   pub no_more : IsPrefixOf (written_of past) (lines tagged (history_of past))
 
 abbrev pub WrittenSoFar : Mode → Timeline → Type 0
