@@ -47,20 +47,20 @@ or_stuck (Some row) = row
 abbrev pub part_of : Piece → Text → High → Piece
 part_of piece low high = record piece { span = Range low high }
 
+abbrev pub split_in : Piece → Text → Span → Step
+split_in piece key (Range low high) = Replace (piece ∷ []) (part_of piece low (At key) ∷ part_of piece key high ∷ []) extra.None
+split_in piece key (Point at) = Stuck
+
 abbrev pub split_at : Piece → Text → Step
-split_at piece key = split piece.span
-  where
-    split : Span → Step
-    split (Range low high) = Replace (piece ∷ []) (part_of piece low (At key) ∷ part_of piece key high ∷ []) extra.None
-    split (Point at) = Stuck
+split_at piece key = split_in piece key piece.span
+
+abbrev pub merge_in : Piece → Piece → Span → Span → Step
+merge_in low high (Range from middle) (Range key to) = Replace (low ∷ high ∷ []) (part_of low from to ∷ []) extra.None
+merge_in low high (Range from middle) (Point at) = Stuck
+merge_in low high (Point at) other = Stuck
 
 abbrev pub merge_of : Piece → Piece → Step
-merge_of low high = merge low.span high.span
-  where
-    merge : Span → Span → Step
-    merge (Range from middle) (Range key to) = Replace (low ∷ high ∷ []) (part_of low from to ∷ []) extra.None
-    merge (Range from middle) (Point at) = Stuck
-    merge (Point at) other = Stuck
+merge_of low high = merge_in low high low.span high.span
 
 abbrev pub offline_of : JobRow → Piece → High → Step
 offline_of job piece end = Replace (piece ∷ []) (record piece { status = Offline } ∷ []) (extra.JobPut (record job { phase = Copying end }))
@@ -89,32 +89,32 @@ merge_due mappings job = option_and_then (λ piece. if below job.low (low_of pie
     with_earlier piece = option_map (λ earlier. Always (merge_of earlier piece)) (ending_at mappings job.map (At (low_of piece.span)))
 
 -- The batch ends below the mapping's high end: split there. Else the mapping is the batch: take it offline.
+abbrev pub batch_in : JobRow → Piece → High → Span → High → Step
+batch_in job piece end (Range low high) (At key) = if before key high then split_at piece key else offline_of job piece end
+batch_in job piece end (Range low high) Max = offline_of job piece end
+batch_in job piece end (Point at) other = Stuck
+
 abbrev pub batch_row : JobRow → Piece → High → Step
-batch_row job piece end = cut piece.span end
-  where
-    cut : Span → High → Step
-    cut (Range low high) (At key) = if before key high then split_at piece key else offline_of job piece end
-    cut (Range low high) Max = offline_of job piece end
-    cut (Point at) other = Stuck
+batch_row job piece end = batch_in job piece end piece.span end
 
 -- at the mapping that contains the cursor: it begins below it, so it is split there, or the batch begins with it
 abbrev pub at_cursor : JobRow → Text → Piece → TableRow
 at_cursor job key piece = if below (low_of piece.span) key then Always (split_at piece key) else UpTo (batch_row job piece)
 
 -- the mapping that contains the cursor, which is a key in every phase but at the unbounded end
+abbrev pub piece_at_end : Owner → Text → High → Option Piece
+piece_at_end own name (At key) = own name key
+piece_at_end own name Max = None
+
 abbrev pub cursor_piece : Owner → JobRow → Option Piece
-cursor_piece own job = owner_at job.cursor
-  where
-    owner_at : High → Option Piece
-    owner_at (At key) = own job.map key
-    owner_at Max = None
+cursor_piece own job = piece_at_end own job.map job.cursor
+
+abbrev pub row_at_end : Owner → JobRow → High → Option TableRow
+row_at_end own job (At key) = option_map (at_cursor job key) (own job.map key)
+row_at_end own job Max = None
 
 abbrev pub cursor_row : Owner → JobRow → TableRow
-cursor_row own job = or_stuck (row_for job.cursor)
-  where
-    row_for : High → Option TableRow
-    row_for (At key) = option_map (at_cursor job key) (own job.map key)
-    row_for Max = None
+cursor_row own job = or_stuck (row_at_end own job job.cursor)
 
 abbrev pub idle_row : Owner → JobRow → Option TableRow → TableRow
 idle_row own job (Some merge) = merge
@@ -122,13 +122,13 @@ idle_row own job None = if same_end job.cursor job.high then Always Finish else 
 
 -- The table. Idle: the merge that is due; at the end of the range the finish; else a split at the cursor, or at the batch end, or the offline.
 -- Copying leads to the move, and Moved to the online.
+abbrev pub phase_row : Owner → Mappings → JobRow → Phase → TableRow
+phase_row own mappings job Idle = idle_row own job (merge_due mappings job)
+phase_row own mappings job (Copying end) = or_stuck (option_map (λ piece. Always (move_of job piece end)) (cursor_piece own job))
+phase_row own mappings job (Moved end) = or_stuck (option_map (λ piece. Always (online_of job piece end)) (cursor_piece own job))
+
 abbrev pub table_row : Owner → Mappings → JobRow → TableRow
-table_row own mappings job = of_phase job.phase
-  where
-    of_phase : Phase → TableRow
-    of_phase Idle = idle_row own job (merge_due mappings job)
-    of_phase (Copying end) = or_stuck (option_map (λ piece. Always (move_of job piece end)) (cursor_piece own job))
-    of_phase (Moved end) = or_stuck (option_map (λ piece. Always (online_of job piece end)) (cursor_piece own job))
+table_row own mappings job = phase_row own mappings job job.phase
 
 -- ---- the batch end
 
@@ -156,12 +156,12 @@ end_of_batch batch (first ∷ keys) high = at_row (slice_get (first ∷ keys) ba
     at_row (Some key) = if below first key then At key else next_above first keys high
 
 -- the lesser of the job's end and the high end of the mapping that contains the cursor
+abbrev pub limited_by : High → Option High → High
+limited_by end None = end
+limited_by end (Some high) = lesser_end end high
+
 abbrev pub batch_limit : JobRow → Piece → High
-batch_limit job piece = limit (end_of piece.span)
-  where
-    limit : Option High → High
-    limit None = job.high
-    limit (Some high) = lesser_end job.high high
+batch_limit job piece = limited_by job.high (end_of piece.span)
 
 -- Where the batch from the cursor on ends. At the end of the range, or where nobody owns the cursor, it is the job's end, which no row of the table reads then.
 abbrev pub batch_end : Owner → Rows → JobRow → High

@@ -203,13 +203,13 @@ abbrev pub IsOwnedAs : Owner → Text → Text → Text → Status → Type 0
 IsOwnedAs own name key location status = (p : Piece) × (own name key ≡ Some p) × (p.location ≡ location) × (p.status ≡ status)
 
 -- from where on the job has moved nothing: the batch's end, or the cursor
+abbrev pub front_in : High → Phase → High
+front_in cursor Idle = cursor
+front_in cursor (Copying end) = end
+front_in cursor (Moved end) = end
+
 abbrev pub front_of : JobRow → High
-front_of job = front job.phase
-  where
-    front : Phase → High
-    front Idle = job.cursor
-    front (Copying end) = end
-    front (Moved end) = end
+front_of job = front_in job.cursor job.phase
 
 -- a batch in progress, whose mapping is at this location
 pub record BatchAt (mappings : Mappings) (job : JobRow) (end : High) (location : Text) : Type 0 where

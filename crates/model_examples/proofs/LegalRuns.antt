@@ -1,5 +1,5 @@
 -- Legal histories on two empty sites, built as they come about.
-use Rattle.std.proofs.Common.{◌≡◌, ℕ, false, ◌+◌, arith, refl, sym, ap, ◌∙◌, [], ◌∷◌, length}
+use Rattle.std.proofs.Common.{◌≡◌, ℕ, false, ◌+◌, arith, inl, refl, sym, ap, ◌∙◌, [], ◌∷◌, length}
 use Rattle.std.specs.FinMap as fin
 use Rattle.cell_world.specs.ByteOrder.{byte_cmp}
 use Rattle.cell_world.specs.Images.{Wrote}
@@ -19,6 +19,8 @@ use Rattle.plain_model.specs.Timelines.{Timeline, Happened, Entered, image_of, f
 use Rattle.plain_model.specs.Lines.{lines_of}
 use Rattle.plain_model.specs.Running.{AllSound}
 use Rattle.plain_model.specs.Written.{EachReply, WrittenByMoments}
+use Rattle.plain_model.specs.OnTrail.{NoneOwed}
+use Rattle.plain_model.proofs.OwedLaws.{none_at_first, none_after_entry}
 use Rattle.plain_model.proofs.NearLaws.{near_itself}
 use Rattle.plain_model.proofs.WrittenAtMoments.{written_by_moments}
 use Rattle.model_examples.specs.Values.{site_a, site_b, map_m, two_sites, trail_of, nothing_going, map_trail, map_commit, image_m, map_entry, closing}
@@ -26,7 +28,7 @@ use Rattle.std.specs.Prelude.{codes}
 use Rattle.model_examples.proofs.Closing.{not_open, makes_first}
 
 pub no_history : Legal 0 (trail_of []) nothing_going []
-no_history = record { timeline = []; happened = refl; entries = refl; connections = nobody; unfolds = refl; rests = near_itself (meaning two_sites); promises = tt }
+no_history = record { timeline = []; happened = refl; entries = refl; connections = nobody; unfolds = refl; stands = refl; none_owed = none_at_first two_sites; promises = tt; named = tt }
 
 -- ---- one map
 
@@ -42,7 +44,12 @@ enters_m = record {
   };
   on_trail = tt;
   planned = tt;
+  own = inl refl;
+  none_owed = λ number is. absurd cc;
 }
+
+pub nothing_open : NoneOwed two_sites (Entered map_entry ∷ Happened map_commit ∷ [])
+nothing_open number is = absurd cc
 
 -- the commit, the entry, and then the line
 abbrev pub one_map : Legal 0 map_trail nothing_going (map_entry ∷ [])
@@ -51,16 +58,18 @@ one_map = record {
   happened = refl;
   entries = refl;
   connections = nobody;
-  unfolds = ((nobody, (refl, near_itself (meaning two_sites), refl), enters_m), near_itself _, tt);
-  rests = near_itself _;
+  unfolds = ((nobody, (refl, near_itself (meaning two_sites), refl, none_at_first two_sites), enters_m), near_itself _, tt, nothing_open);
+  stands = refl;
+  none_owed = nothing_open;
   promises = (tt, tt);
+  named = (tt, tt);
 }
 
 -- ---- refused commands
 
 enters_closing : (since : ℕ) (past : Timeline) (moment : ℕ) → moment ≡ since + length (happened_of past) → meaning (image_of two_sites past) ≡ facts_of two_sites past
-    → MayEnter since two_sites past (closing moment) nobody nobody
-enters_closing since past moment now same = record {
+    → NoneOwed two_sites past → MayEnter since two_sites past (closing moment) nobody nobody
+enters_closing since past moment now same none = record {
   moment = now;
   follows = record {
     held = holds_nothing;
@@ -68,6 +77,8 @@ enters_closing since past moment now same = record {
   };
   on_trail = tt;
   planned = tt;
+  own = inl refl;
+  none_owed = none_after_entry two_sites past (closing moment) none;
 }
 
 pub two_refusals : Legal 0 (trail_of (Wrote [] ∷ [])) nothing_going (closing 0 ∷ closing 1 ∷ [])
@@ -76,9 +87,11 @@ two_refusals = record {
   happened = refl;
   entries = refl;
   connections = nobody;
-  unfolds = (nobody, ((nobody, refl, enters_closing 0 [] 0 refl refl), near_itself (meaning two_sites), tt), enters_closing 0 (Happened (Wrote []) ∷ Entered (closing 0) ∷ []) 1 refl refl);
-  rests = near_itself (meaning two_sites);
+  unfolds = (nobody, ((nobody, refl, enters_closing 0 [] 0 refl refl (none_at_first two_sites)), near_itself (meaning two_sites), tt, λ number is. absurd cc), enters_closing 0 (Happened (Wrote []) ∷ Entered (closing 0) ∷ []) 1 refl refl (λ number is. absurd cc));
+  stands = refl;
+  none_owed = λ number is. absurd cc;
   promises = (tt, (tt, tt));
+  named = tt;
 }
 
 pub later_start : Legal 1 (trail_of []) nothing_going (closing 1 ∷ [])
@@ -87,9 +100,11 @@ later_start = record {
   happened = refl;
   entries = refl;
   connections = nobody;
-  unfolds = (nobody, refl, enters_closing 1 [] 1 refl refl);
-  rests = near_itself (meaning two_sites);
+  unfolds = (nobody, refl, enters_closing 1 [] 1 refl refl (none_at_first two_sites));
+  stands = refl;
+  none_owed = λ number is. absurd cc;
   promises = (tt, tt);
+  named = tt;
 }
 
 pub one_refusal : Legal 0 (trail_of []) nothing_going (closing 0 ∷ [])
@@ -98,9 +113,11 @@ one_refusal = record {
   happened = refl;
   entries = refl;
   connections = nobody;
-  unfolds = (nobody, refl, enters_closing 0 [] 0 refl refl);
-  rests = near_itself (meaning two_sites);
+  unfolds = (nobody, refl, enters_closing 0 [] 0 refl refl (none_at_first two_sites));
+  stands = refl;
+  none_owed = λ number is. absurd cc;
   promises = (tt, tt);
+  named = tt;
 }
 
 -- ---- what is written of the one map
@@ -112,9 +129,11 @@ map_unwritten = record {
   happened = refl;
   entries = refl;
   connections = nobody;
-  unfolds = (nobody, (refl, near_itself (meaning two_sites), refl), enters_m);
-  rests = near_itself _;
+  unfolds = (nobody, (refl, near_itself (meaning two_sites), refl, none_at_first two_sites), enters_m);
+  stands = refl;
+  none_owed = nothing_open;
   promises = (tt, tt);
+  named = (tt, tt);
 }
 
 pub map_written : WrittenByMoments (EachReply false) map_trail 0 (map_entry ∷ [])

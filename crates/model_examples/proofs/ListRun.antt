@@ -41,7 +41,7 @@ sound_sites = empty_sound (site_a ∷ site_b ∷ [])
 
 entered : Owing 0 two_sites (EachReply false) (Entered list_refused ∷ []) nobody (text_of (EachReply false) list_refused)
 entered = owing-entered 0 two_sites (EachReply false) [] nobody nobody list_refused (reply.Refused refused.NoMap) (begins 0 two_sites (EachReply false) sound_sites) refl
-    (record { moment = refl; follows = follows; on_trail = tt; planned = tt })
+    (record { moment = refl; follows = follows; on_trail = tt; planned = tt; own = inl refl; none_owed = λ number is. absurd cc })
 
 wrote : Owing 0 two_sites (EachReply false) (Happened (Wrote no_map_line) ∷ Entered list_refused ∷ []) nobody []
 unfolding lines_of refusal_text
@@ -49,7 +49,7 @@ wrote = owing-wrote_all 0 two_sites (EachReply false) (Entered list_refused ∷ 
 
 pub runs : RunsByMoments (EachReply false) list_trail 0 (λ session. None) (list_refused ∷ [])
 runs = let begun : 0 ≤ 1 = omega arith in
-    runs_by_moments (EachReply false) list_trail 0 (λ session. None) (Happened (Wrote no_map_line) ∷ Entered list_refused ∷ []) nobody begun refl wrote.run (tt, tt)
+    runs_by_moments (EachReply false) list_trail 0 (λ session. None) (Happened (Wrote no_map_line) ∷ Entered list_refused ∷ []) nobody begun refl wrote.run (tt, tt) tt
 
 pub is_written : AllWritten (EachReply false) list_trail 0 (list_refused ∷ [])
 is_written = let begun : 0 ≤ 1 = omega arith in

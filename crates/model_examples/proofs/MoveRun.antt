@@ -1,6 +1,6 @@
 -- A run in which the copied batch is moved: the operation is logged, then the stores change, and then the step is entered.
-use Rattle.std.proofs.Common.{◌≡◌, true, refl, sym, ap, ◌∙◌, Some, inl, inr, [], ◌∷◌}
-use Rattle.cell_world.specs.Images.{Image}
+use Rattle.std.proofs.Common.{◌≡◌, true, is_some, refl, sym, ap, ◌∙◌, Some, inl, inr, [], ◌∷◌}
+use Rattle.cell_world.specs.Images.{Image, Global}
 use Rattle.cell_world.specs.Meaning.{meaning}
 use Rattle.cell_world.specs.Orders.{pair_cmp}
 use Rattle.cell_world.specs.Plain.{nobody}
@@ -14,8 +14,10 @@ use Rattle.plain_model.specs.Legal.{Legal, IsPlanned}
 use Rattle.plain_model.specs.Timelines.{Happened, Entered, image_of}
 use Rattle.plain_model.specs.Worked.{small_key}
 use Rattle.plain_model.proofs.NearLaws.{near_itself, near_of}
-use Rattle.model_examples.specs.Values.{site_a, keyed_pieces, job_at, job_piece, nothing_going, tried, move_op, move_commit, copying_image, copying_trail}
-use Rattle.model_examples.specs.Runs.{silent_step}
+use Rattle.model_examples.specs.Values.{logging, site_a, keyed_pieces, job_at, job_piece, nothing_going, tried, move_op, move_commit, copying_image, copying_trail}
+use Rattle.model_examples.specs.Runs.{named_step}
+use Rattle.plain_model.specs.OnTrail.{InLog, NoneOwed}
+use Rattle.plain_model.proofs.OwedLaws.{none_at_first, none_after_log, open_unnamed, tried_or_open}
 use Rattle.model_examples.proofs.JobStates.{m_stands, job_stands, the_move}
 use Rattle.model_examples.proofs.Lookups.{entries_of}
 use Rattle.model_examples.proofs.Operations.{in_log}
@@ -45,25 +47,39 @@ takes = record {
   after = done;
 }
 
-planned : IsPlanned copying_image (Happened move_commit ∷ Happened (tried move_op true) ∷ []) (meaning copying_image) (meaning moved_image) (Some job)
-planned = inr (inr (move_op, record { logged = in_log move_op; planned = inr (inl (refl, plans_the_move)); step = done }))
+planned : IsPlanned copying_image (Happened move_commit ∷ Happened (tried move_op true) ∷ []) (meaning copying_image) named_step (meaning moved_image) (Some job)
+planned = inr (inr (move_op, record { logged = in_log move_op; planned = inr (inl (inl (refl, plans_the_move))); step = done }))
 
-pub the_move_run : Legal 0 (copying_trail (tried move_op true ∷ move_commit ∷ [])) nothing_going (silent_step ∷ [])
+-- its number is open, and stands in the log
+logged_stands : NoneOwed copying_image (Happened (tried move_op true) ∷ [])
+logged_stands = none_after_log copying_image [] (logging move_op) move_op refl (ap is_some (in_log move_op)) (λ number is. absurd cc)
+
+-- after the entry that names it none is owed
+named_at_once : NoneOwed copying_image (Entered named_step ∷ Happened move_commit ∷ Happened (tried move_op true) ∷ [])
+named_at_once number is =
+    let o = open_unnamed number (Happened move_commit ∷ Happened (tried move_op true) ∷ []) named_step is in
+    tried_or_open number [] Global (logging move_op) true move_op (InLog moved_image number) refl o.0 (λ same. absurd (o.1 same)) (λ before. absurd cc)
+
+pub the_move_run : Legal 0 (copying_trail (tried move_op true ∷ move_commit ∷ [])) nothing_going (named_step ∷ [])
 the_move_run = record {
-  timeline = Entered silent_step ∷ Happened move_commit ∷ Happened (tried move_op true) ∷ [];
+  timeline = Entered named_step ∷ Happened move_commit ∷ Happened (tried move_op true) ∷ [];
   happened = refl;
   entries = refl;
   connections = nobody;
   unfolds = (
     nobody,
-    ((refl, near_itself (meaning copying_image), (refl, refl)), near_of _ _ at_rest, refl),
+    ((refl, near_itself (meaning copying_image), (refl, refl), none_at_first copying_image), near_of _ _ at_rest, refl, logged_stands),
     record {
       moment = refl;
       follows = record { job = job; asked = job_stands 0 (Copying (At (small_key 5))); step = takes };
       on_trail = tt;
       planned = rw (job_stands 0 (Copying (At (small_key 5)))) planned;
+      own = inr (inr (inl (inl (refl, plans_the_move))));
+      none_owed = named_at_once;
     },
   );
-  rests = near_itself (meaning moved_image);
+  stands = refl;
+  none_owed = named_at_once;
   promises = (tt, tt);
+  named = (tt, ((record { session = 1; at_operation = refl }, tt), tt));
 }

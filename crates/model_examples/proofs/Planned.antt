@@ -5,6 +5,7 @@ use Rattle.std.proofs.lemmas.Cmp.{nat_cmp_total}
 use Rattle.std.specs.FinMap as fin
 use Rattle.std.specs.declared.cmp.Ordering.{Ordering}
 use Rattle.cell_world.specs.Orders.{pair_cmp, row_cmp}
+use Rattle.cell_world.specs.ByteOrder.{byte_cmp}
 use Rattle.cell_world.specs.Images.{Image, Shard, global}
 use Rattle.cell_world.specs.Jobs.{Replace, Finish, table_row, batch_end, with_end, job_step}
 use Rattle.cell_world.specs.Meaning.{meaning, owner_of, is_attached_at}
@@ -25,7 +26,7 @@ use Rattle.plain_model.specs.JobSteps.{stepped, is_moved}
 use Rattle.plain_model.specs.Legal.{IsPlannedIn}
 use Rattle.plain_model.specs.Refusing.{if_there}
 use Rattle.plain_model.specs.Worked.{small_key}
-use Rattle.model_examples.specs.Values.{site_a, keyed_pieces, job_at, job_piece, copying_image, fresh_image, copying_state, after_move, move_op}
+use Rattle.model_examples.specs.Values.{site_a, site_b, keyed_pieces, job_at, job_piece, copying_image, fresh_image, copying_state, after_move, move_op}
 use Rattle.model_examples.proofs.Lookups.{entries_of, differ}
 use Rattle.model_examples.proofs.JobStates.{m_stands, job_stands, move_shows}
 
@@ -64,6 +65,7 @@ plans_the_move = record {
   job = job_at 0 (Copying (At (small_key 5)));
   stands = job_stands 0 (Copying (At (small_key 5)));
   row = rw (m_stands, entries_of pair_cmp (keyed_pieces (job_piece 0 5 site_a Offline ∷ job_piece 5 10 site_a Online ∷ [])) tt) refl;
+  accepted = rw (job_stands 0 (Copying (At (small_key 5))), fin.get-empty byte_cmp site_a, fin.get-empty byte_cmp site_b) refl;
 }
 
 -- the move changes the job

@@ -17,6 +17,7 @@ caused before after known history ending no_fault ends did says =
       cause = says;
       by_input = record { words = λ place wrong. absurd wrong; reading = λ long. absurd long; script = λ line reason wrong. absurd wrong };
       by_opening = λ location unknown. absurd (known location unknown);
+      unknown = λ location unknown. absurd (known location unknown);
       kept = record {
         few_faults = subst (λ (n : ℕ). StoreRoseBy n (world_of before) (world_of after)) (sym no_fault) (inr none);
         ends_with_memory = ends;

@@ -15,7 +15,7 @@ use Rattle.plain_model.specs.declared.finish.Reason.TheVariants.{BadByte}
 use Rattle.plain_model.specs.declared.history.Entry.{Entry}
 use Rattle.plain_model.specs.Legal.{Going}
 use Rattle.plain_model.specs.Headline.{Causes}
-use Rattle.model_examples.specs.Values.{map_m, map_n, site_a, site_b, away_of, make_map, answered, silent, at_moment, trail_of}
+use Rattle.model_examples.specs.Values.{map_m, map_n, site_a, site_b, away_of, make_map, answered, naming, silent, at_moment, trail_of}
 
 -- ---- trails
 
@@ -28,6 +28,10 @@ nothing_done = Committed Global [] true
 -- a step of a job at moment 2, without a reply
 abbrev pub silent_step : Entry
 silent_step = at_moment (silent 1 (command.Step 1)) 2
+
+-- it names operation 1
+abbrev pub named_step : Entry
+named_step = naming silent_step 1
 
 -- `step 1` is answered `done 1`
 abbrev pub step_done : Entry

@@ -14,7 +14,7 @@ ghost use Rattle.plain_model.specs.declared.finish.Reason.TheVariants.{BadByte, 
 ghost use Rattle.plain_model.specs.declared.finish.RunStatus.TheVariants as status;
 ghost use Rattle.plain_model.specs.declared.replies.Refusal.TheVariants as refused;
 ghost use Rattle.plain_model.specs.declared.replies.Reply.TheVariants as reply;
-ghost use Rattle.plain_model.specs.Headline.{SoundAtEachMoment, IsLeftGoing, IsLegalHistory, OnlyWhatHappened, InOrder, EachOnceInOrder, EndsAnswered, EndsWithMemory, named_locations, IsFirstUnknown, StatusCause, ComesByInput, ComesByOpening, KeepsToStatus, StatusHasCause, GoesOnFrom, Headline, FollowsTo, IsLegalByStates, HeadlineAlone};
+ghost use Rattle.plain_model.specs.Headline.{LeavesUnknown, SoundAtEachMoment, IsLeftGoing, IsLegalHistory, OnlyWhatHappened, InOrder, EachOnceInOrder, EndsAnswered, EndsWithMemory, named_locations, IsFirstUnknown, StatusCause, ComesByInput, ComesByOpening, KeepsToStatus, StatusHasCause, GoesOnFrom, Headline, FollowsTo, IsLegalByStates, HeadlineAlone};
 ghost use Rattle.plain_model.specs.Written.{EachReply};
 ghost use Rattle.plain_model.specs.Worked.{small_range, mapping_over};
 ghost use Rattle.model_examples.specs.Values.{move_op, job_at, row_m, map_commit, image_m, map_trail, answered, map_m, map_n, site_a, site_b, make_map, two_sites, with_global, empty_state, with_map, at_moment, map_entry, second_entry, trail_of};
@@ -187,6 +187,13 @@ pub fn comes_by_opening()
     ensures nothing_told { ComesByOpening (world_of TellsNothing) status.Done }
     ensures never_done_on_a_trail { ComesByOpening (world_of (TellsTrail (trail_of (Reopened Global unknown_store ∷ [])))) status.Done → ⊥ }
     ensures never_the_second { ComesByOpening (world_of (TellsContents (with_global unknown_store))) (status.UnknownLocation site_d) → ⊥ }
+{}
+
+/// Where the stores name an unknown location nothing is done.
+pub fn left_unknown()
+    ensures nothing_done { LeavesUnknown (world_of (TellsContents (with_global unknown_store))) (world_of (TellsContents (with_global unknown_store))) [] }
+    ensures all_known { LeavesUnknown (world_of (TellsContents two_sites)) (world_of (TellsContents image_m)) (map_entry ∷ []) }
+    ensures never_an_entry { LeavesUnknown (world_of (TellsContents (with_global unknown_store))) (world_of (TellsContents (with_global unknown_store))) (list_refused ∷ []) → ⊥ }
 {}
 
 /// The last entry has a reply.

@@ -6,18 +6,23 @@ ghost use Rattle.cell_world.specs.Images.{Global, Shard, Committed, Wrote, Reope
 ghost use Rattle.cell_world.specs.declared.cells.Cell.TheVariants as cell;
 ghost use Rattle.cell_world.specs.declared.cells.Mark.TheVariants.{Old, Plain};
 ghost use Rattle.cell_world.specs.declared.cells.Status.TheVariants.{Online};
-ghost use Rattle.cell_world.specs.declared.changes.Edit.TheVariants.{Put};
+ghost use Rattle.cell_world.specs.declared.changes.Edit.TheVariants.{Put, Delete};
 ghost use Rattle.cell_world.specs.declared.operations.Phase.TheVariants.{Idle, Copying};
 ghost use Rattle.cell_world.specs.declared.spans.High.TheVariants.{At};
 ghost use Rattle.plain_model.specs.declared.commands.Command.TheVariants as command;
 ghost use Rattle.plain_model.specs.declared.replies.Refusal.TheVariants as refused;
 ghost use Rattle.plain_model.specs.declared.replies.Reply.TheVariants as reply;
 ghost use Rattle.plain_model.specs.ByMoments.{LegalByMoments};
-ghost use Rattle.plain_model.specs.Legal.{KeepsCounter, KeepsPromises, MayHappen, IsPlanned, IsPlannedIn, Going, AllGoing};
+ghost use Rattle.std.specs.FinMap as fin;
+ghost use Rattle.cell_world.specs.declared.cells.CellKey.TheVariants as at;
+ghost use Rattle.cell_world.specs.declared.cells.Away.TheVariants.{Detached};
+ghost use Rattle.plain_model.specs.Refusing.{AcceptsJob};
+ghost use Rattle.plain_model.specs.OnTrail.{NoneOwed};
+ghost use Rattle.plain_model.specs.Legal.{NamesItsOwn, AreNamed, KeepsCounter, KeepsPromises, MayHappen, IsPlanned, IsPlannedIn, Going, AllGoing};
 ghost use Rattle.plain_model.specs.Timelines.{Happened, Entered};
 ghost use Rattle.plain_model.specs.Worked.{small_key, small_range, local_row_over};
-ghost use Rattle.model_examples.specs.Values.{map_m, make_map, site_a, answered, silent, naming, at_moment, two_sites, with_global, detached_store, local_cells, maps_m, map_commit, map_trail, map_entry, closing, trail_of, nothing_going, add_op, tried, add_0_10, job_at, copying_state, after_move, fresh_state, after_split, finished_state, all_moved_state, move_op, split_op, copying_image, fresh_image, move_commit, copying_trail};
-ghost use Rattle.model_examples.specs.Runs.{silent_step};
+ghost use Rattle.model_examples.specs.Values.{add_0_10, add_op, after_move, after_split, all_moved_state, answered, at_moment, away_of, closing, copying_image, copying_state, copying_trail, detached_store, finished_state, fresh_image, fresh_state, job_at, local_cells, make_map, map_commit, map_entry, map_m, map_trail, maps_m, move_commit, move_op, naming, nothing_going, silent, site_a, split_op, state_with, trail_of, tried, two_sites, with_global};
+ghost use Rattle.model_examples.specs.Runs.{silent_step, named_step};
 
 /// Legal histories: an empty one, a `map` with its commit and its line, and two refused commands.
 pub fn legal_histories()
@@ -82,7 +87,7 @@ pub fn global_commits()
     ensures a_map { MayHappen two_sites [] map_commit }
     ensures one_log { MayHappen two_sites [] (tried (add_op 1 0 10) true) }
     ensures one_log_not_made { MayHappen two_sites [] (tried (add_op 1 0 10) false) }
-    ensures another_number_not_made { MayHappen two_sites [] (tried (add_op 2 0 10) false) }
+    ensures never_another_number_not_made { MayHappen two_sites [] (tried (add_op 2 0 10) false) → ⊥ }
     ensures never_another_number { MayHappen two_sites [] (tried (add_op 2 0 10) true) → ⊥ }
     ensures never_a_log_alone { MayHappen two_sites [] (Committed Global (Put (cell.Log (add_op 1 0 10)) ∷ []) true) → ⊥ }
     ensures never_two_logs { MayHappen two_sites [] (Committed Global (Put (cell.Log (add_op 1 0 10)) ∷ Put (cell.Log (add_op 2 10 20)) ∷ Put (cell.Counter (record { operation = 3; job = 1 })) ∷ []) true) → ⊥ }
@@ -124,19 +129,65 @@ pub fn planned_operations()
 
 /// A step of a job that changes mappings or jobs is the finish, or was made by an operation that was planned when it was logged.
 pub fn planned_steps()
-    ensures of_no_job { IsPlanned two_sites [] copying_state after_move None }
-    ensures the_finish { IsPlanned two_sites [] all_moved_state finished_state (Some (job_at 10 Idle)) }
-    ensures no_change { IsPlanned two_sites [] copying_state copying_state (Some (job_at 0 (Copying (At (small_key 5))))) }
-    ensures made { IsPlanned copying_image (Happened (Committed Global [] true) ∷ Happened (tried move_op true) ∷ []) copying_state after_move (Some (job_at 0 (Copying (At (small_key 5))))) }
-    ensures never_made_by_nothing { IsPlanned copying_image [] copying_state after_move (Some (job_at 0 (Copying (At (small_key 5))))) → ⊥ }
-    ensures never_not_logged { IsPlanned copying_image (Happened (Committed Global [] true) ∷ Happened (tried move_op false) ∷ []) copying_state after_move (Some (job_at 0 (Copying (At (small_key 5))))) → ⊥ }
-    ensures never_to_another_end { IsPlanned fresh_image (Happened (Committed Global [] true) ∷ Happened (tried split_op true) ∷ []) fresh_state after_split (Some (job_at 0 Idle)) → ⊥ }
+    ensures of_no_job { IsPlanned two_sites [] copying_state silent_step after_move None }
+    ensures the_finish { IsPlanned two_sites [] all_moved_state silent_step finished_state (Some (job_at 10 Idle)) }
+    ensures no_change { IsPlanned two_sites [] copying_state silent_step copying_state (Some (job_at 0 (Copying (At (small_key 5))))) }
+    ensures made { IsPlanned copying_image (Happened (Committed Global [] true) ∷ Happened (tried move_op true) ∷ []) copying_state named_step after_move (Some (job_at 0 (Copying (At (small_key 5))))) }
+    ensures never_made_by_nothing { IsPlanned copying_image [] copying_state silent_step after_move (Some (job_at 0 (Copying (At (small_key 5))))) → ⊥ }
+    ensures never_not_logged { IsPlanned copying_image (Happened (Committed Global [] true) ∷ Happened (tried move_op false) ∷ []) copying_state named_step after_move (Some (job_at 0 (Copying (At (small_key 5))))) → ⊥ }
+    ensures never_to_another_end { IsPlanned fresh_image (Happened (Committed Global [] true) ∷ Happened (tried split_op true) ∷ []) fresh_state named_step after_split (Some (job_at 0 Idle)) → ⊥ }
 {}
 
 /// In a whole run: the move of the copied batch is legal where its log cell was put in the run, and not where it wasn't.
 pub fn planned_in_a_run()
-    ensures the_move { LegalByMoments (copying_trail (tried move_op true ∷ move_commit ∷ [])) 0 nothing_going (silent_step ∷ []) }
+    ensures the_move { LegalByMoments (copying_trail (tried move_op true ∷ move_commit ∷ [])) 0 nothing_going (named_step ∷ []) }
+    ensures never_unnamed { LegalByMoments (copying_trail (tried move_op true ∷ move_commit ∷ [])) 0 nothing_going (silent_step ∷ []) → ⊥ }
     ensures never_without_its_log { LegalByMoments (copying_trail (move_commit ∷ [])) 0 nothing_going (silent 1 (command.Step 1) ∷ []) → ⊥ }
+{}
+
+// ---- an entry names its own operation
+
+/// An entry names no operation, or one that was tried for its command since its session's previous entry, made or not.
+pub fn entries_name_their_own()
+    ensures none { NamesItsOwn two_sites [] (state_with [] []) (answered 1 add_0_10 reply.Ok) }
+    ensures its_own { NamesItsOwn two_sites (Happened (tried (add_op 1 0 10) true) ∷ []) (state_with [] []) (naming (answered 1 add_0_10 reply.Ok) 1) }
+    ensures its_own_not_made { NamesItsOwn two_sites (Happened (tried (add_op 1 0 10) false) ∷ []) (state_with [] []) (naming (answered 1 add_0_10 reply.Fault) 1) }
+    ensures after_another_session { NamesItsOwn two_sites (Entered (answered 2 (make_map map_m) reply.Fault) ∷ Happened (tried (add_op 1 0 10) true) ∷ []) (state_with [] []) (naming (answered 1 add_0_10 reply.Ok) 1) }
+    ensures of_a_job { NamesItsOwn copying_image (Happened (tried move_op false) ∷ []) copying_state (naming (answered 1 (command.Step 1) reply.Fault) 1) }
+    ensures never_untried { NamesItsOwn two_sites [] (state_with [] []) (naming (answered 1 add_0_10 reply.Ok) 1) → ⊥ }
+    ensures never_another_number { NamesItsOwn two_sites (Happened (tried (add_op 1 0 10) true) ∷ []) (state_with [] []) (naming (answered 1 add_0_10 reply.Ok) 2) → ⊥ }
+    ensures never_before_its_previous_entry { NamesItsOwn two_sites (Entered (answered 1 (make_map map_m) reply.Fault) ∷ Happened (tried (add_op 1 0 10) true) ∷ []) (state_with [] []) (naming (answered 1 add_0_10 reply.Ok) 1) → ⊥ }
+    ensures never_anothers { NamesItsOwn two_sites (Happened (tried (add_op 1 5 15) true) ∷ []) (state_with [] []) (naming (answered 1 add_0_10 reply.Ok) 1) → ⊥ }
+    ensures never_by_a_command_without { NamesItsOwn two_sites (Happened (tried (add_op 1 0 10) true) ∷ []) (state_with [] []) (naming (answered 1 (make_map map_m) reply.Ok) 1) → ⊥ }
+{}
+
+/// No entry is owed where each open number stands in the log. A made commit that takes the log cell of a live operation away, and a try that wasn't made, owe an entry that names it, at once.
+pub fn entries_are_owed()
+    ensures while_it_is_logged { NoneOwed two_sites (Happened (tried (add_op 1 0 10) true) ∷ []) }
+    ensures named_at_once { NoneOwed two_sites (Entered (naming (answered 1 add_0_10 reply.Fault) 1) ∷ Happened (tried (add_op 1 0 10) false) ∷ []) }
+    ensures of_an_earlier_run { NoneOwed (with_global (record empty_store { log = fin.insert fin.empty 1 (add_op 1 0 10) })) (Happened (Committed Global (Delete (at.Log 1) ∷ []) true) ∷ []) }
+    ensures of_an_abandoned_one { NoneOwed two_sites (Happened (Committed Global (Delete (at.Log 1) ∷ []) true) ∷ Entered (naming (answered 1 add_0_10 reply.Fault) 1) ∷ Happened (tried (add_op 1 0 10) true) ∷ []) }
+    ensures never_of_a_live_one { NoneOwed two_sites (Happened (Committed Global (Delete (at.Log 1) ∷ []) true) ∷ Happened (tried (add_op 1 0 10) true) ∷ []) → ⊥ }
+    ensures never_not_made { NoneOwed two_sites (Happened (tried (add_op 1 0 10) false) ∷ []) → ⊥ }
+    ensures never_unnamed { NoneOwed two_sites (Entered (answered 1 add_0_10 reply.Fault) ∷ Happened (tried (add_op 1 0 10) false) ∷ []) → ⊥ }
+    ensures never_by_another_number { NoneOwed two_sites (Entered (naming (answered 1 add_0_10 reply.Fault) 2) ∷ Happened (tried (add_op 1 0 10) false) ∷ []) → ⊥ }
+{}
+
+/// Each operation that was tried is named by the next entry of some session, or some session has it going at the end.
+pub fn tried_operations_are_named()
+    ensures next { AreNamed nothing_going (Entered (naming (answered 1 add_0_10 reply.Fault) 1) ∷ Happened (tried (add_op 1 0 10) true) ∷ []) [] }
+    ensures after_others { AreNamed nothing_going (Entered (naming (answered 1 add_0_10 reply.Fault) 1) ∷ Entered (answered 2 (make_map map_m) reply.Fault) ∷ Happened (tried (add_op 1 0 10) true) ∷ []) [] }
+    ensures going { AreNamed (λ session. Some (record { command = add_0_10; operation = 1 })) (Happened (tried (add_op 1 0 10) true) ∷ []) [] }
+    ensures never_by_nobody { AreNamed nothing_going (Happened (tried (add_op 1 0 10) true) ∷ []) [] → ⊥ }
+    ensures never_only_later { AreNamed nothing_going (Entered (naming (answered 1 add_0_10 reply.Fault) 1) ∷ Entered (answered 1 (make_map map_m) reply.Fault) ∷ Happened (tried (add_op 1 0 10) true) ∷ []) [] → ⊥ }
+{}
+
+/// A step of a job is accepted where its source and its target are attached: where its operation is tried, and at the finish.
+pub fn accepted_steps()
+    ensures attached { AcceptsJob all_moved_state 1 }
+    ensures never_of_another_job { AcceptsJob all_moved_state 2 → ⊥ }
+    ensures never_from_a_detached_source { AcceptsJob (record all_moved_state { away = away_of ((site_a, Detached) ∷ []) }) 1 → ⊥ }
+    ensures never_a_finish_with_a_detached_source { IsPlanned two_sites [] (record all_moved_state { away = away_of ((site_a, Detached) ∷ []) }) silent_step (record finished_state { away = away_of ((site_a, Detached) ∷ []) }) (Some (job_at 10 Idle)) → ⊥ }
 {}
 
 // ---- promises

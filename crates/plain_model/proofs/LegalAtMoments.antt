@@ -10,10 +10,11 @@ use Rattle.plain_model.specs.Timelines.{Timeline, Happened, Entered, image_of, f
 use Rattle.plain_model.specs.Near.{Near}
 use Rattle.plain_model.specs.JobSteps.{asked_job}
 use Rattle.plain_model.specs.Follows.{Follows}
-use Rattle.plain_model.specs.OnTrail.{OnTrail}
-use Rattle.plain_model.specs.Legal.{IsPlanned, MayHappen, MayEnter, IsAtRest, Unfolds, AllGoing, KeepsPromises, Legal}
+use Rattle.plain_model.specs.OnTrail.{OnTrail, NoneOwed}
+use Rattle.plain_model.specs.Legal.{IsPlanned, NamesItsOwn, MayHappen, MayEnter, IsAtRest, Unfolds, AllGoing, KeepsPromises, AreNamed, Legal}
 use Rattle.plain_model.specs.Written.{last_moment, by_moment}
 use Rattle.plain_model.specs.ByMoments.{moment_of, timeline_at, FollowsAt, LegalByMoments, from_moment}
+use Rattle.plain_model.proofs.NearLaws.{near_of}
 use Rattle.plain_model.proofs.Moments.{get_left, get_mid, get_within, moment_early, moment_last, moment_end, by_moment-later, Fits, fits_of, now_of, now_next, image_fits, last_le, facts_fit, weaves, all_by_now}
 
 near_with : (a b : PlainState) (cs : Connections) → Near a b → Near (with_connections a cs) (with_connections b cs)
@@ -105,14 +106,15 @@ module _ (trail : Trail) (t0 : ℕ) where
   follows_now past before after e u fits enters =
       let P : Timeline → PlainState → PlainState → Type 0 = λ p a b.
       Follows (past_of (image_at trail t0) p) (with_connections a before) e (with_connections b after) e.reply × OnTrail (image_at trail t0) p (with_connections a before) e (with_connections b after) e.reply
-      × IsPlanned (image_at trail t0) p (with_connections a before) (with_connections b after) (asked_job a e.command) in
+      × IsPlanned (image_at trail t0) p (with_connections a before) e (with_connections b after) (asked_job a e.command)
+      × NamesItsOwn (image_at trail t0) p (with_connections a before) e × NoneOwed (image_at trail t0) (Entered e ∷ p) in
       let at : timeline_at trail t0 (history_of past) e.moment ≡ past = ap (timeline_at trail t0 (history_of past)) enters.moment ∙ weaves trail t0 past before u fits in
       let new : meaning (image_at trail e.moment) ≡ meaning (image_of (image_at trail t0) past) = ap (λ m. meaning (image_at trail m)) enters.moment ∙ ap meaning (image_fits trail t0 past fits) in
       let both : P (timeline_at trail t0 (history_of past) e.moment) (meaning (image_at trail (last_moment t0 (history_of past)))) (meaning (image_at trail e.moment)) =
       subst (λ (p : Timeline). P p (meaning (image_at trail (last_moment t0 (history_of past)))) (meaning (image_at trail e.moment))) (sym at)
       (subst (λ (a : PlainState). P past a (meaning (image_at trail e.moment))) (sym (facts_fit trail t0 past before u fits))
-      (subst (λ (b : PlainState). P past (facts_of (image_at trail t0) past) b) (sym new) (enters.follows, enters.on_trail, enters.planned))) in
-      record { follows = both.0; on_trail = both.1; planned = both.2 }
+      (subst (λ (b : PlainState). P past (facts_of (image_at trail t0) past) b) (sym new) (enters.follows, enters.on_trail, enters.planned, enters.own, enters.none_owed))) in
+      record { follows = both.0; on_trail = both.1; planned = both.2; own = both.3; none_owed = both.4 }
 
   follows_of : (past : Timeline) (cs : Connections) (u : Unfolds t0 (image_at trail t0) past cs) → Fits trail t0 past → (i : ℕ) (e : Entry) → slice_get (history_of past) i ≡ Some e
       → FollowsAt trail t0 (take i (history_of past)) e (conns past cs u i) (conns past cs u (i + 1))
@@ -157,16 +159,43 @@ module _ (trail : Trail) (t0 : ℕ) where
       some_is : (x y : Happening) → Some x ≡ Some y → x ≡ y
       some_is x y is = cc
 
+  -- ---- entries that are owed
+
+  -- none is owed before anything happens, and none now
+  owed_of : (past : Timeline) (cs : Connections) → Unfolds t0 (image_at trail t0) past cs → Fits trail t0 past → NoneOwed (image_at trail t0) past → (t : ℕ) → t0 ≤ t → t ≤ now_of t0 past
+      → NoneOwed (image_at trail t0) (timeline_at trail t0 (by_moment t (history_of past)) t)
+  owed_of past cs u fits none t lo hi = ⊎_elim
+      (λ small. earlier past cs u fits t lo small)
+      (λ big. let is : t ≡ now_of t0 past = omega (arith, big, hi) in
+      let then : timeline_at trail t0 (by_moment t (history_of past)) t ≡ past =
+      ap (λ es. timeline_at trail t0 es t) (all_by_now trail t0 past cs u t (omega (arith, is))) ∙ ap (timeline_at trail t0 (history_of past)) is ∙ weaves trail t0 past cs u fits in
+      subst (λ (p : Timeline). NoneOwed (image_at trail t0) p) (sym then) none)
+      (cases_lt t (now_of t0 past))
+    where
+      earlier : (past : Timeline) (cs : Connections) → Unfolds t0 (image_at trail t0) past cs → Fits trail t0 past → (t : ℕ) → t0 ≤ t → t < now_of t0 past
+          → NoneOwed (image_at trail t0) (timeline_at trail t0 (by_moment t (history_of past)) t)
+      earlier [] cs u fits t lo hi = absurd (omega (arith, lo, hi))
+      earlier (Entered e ∷ past) cs u fits t lo hi =
+          subst (λ (es : List Entry). NoneOwed (image_at trail t0) (timeline_at trail t0 es t)) (sym (by_moment-later t (history_of past) e (omega (arith, hi, u.2.moment)))) (earlier past u.0 u.1 fits t lo hi)
+      earlier (Happened h ∷ past) cs u fits t lo hi = ⊎_elim
+          (λ small. earlier past cs u.0 fits.0 t lo small)
+          (λ big. let is : t ≡ now_of t0 past = omega (arith, big, hi, now_next t0 past h) in
+          let then : timeline_at trail t0 (by_moment t (history_of past)) t ≡ past =
+          ap (λ es. timeline_at trail t0 es t) (all_by_now trail t0 past cs u.0 t (omega (arith, is))) ∙ ap (timeline_at trail t0 (history_of past)) is ∙ weaves trail t0 past cs u.0 fits.0 in
+          subst (λ (p : Timeline). NoneOwed (image_at trail t0) p) (sym then) u.3)
+          (cases_lt t (now_of t0 past))
+
 -- What is legal on the trail's stretch from t0 is legal moment by moment.
 pub legal_by_moments : (trail : Trail) (t0 : ℕ) (going : AllGoing) (history : List Entry) → t0 ≤ end_of_trail trail → Legal t0 (from_moment trail t0) going history → LegalByMoments trail t0 going history
 legal_by_moments trail t0 going history le legal =
-    subst (LegalByMoments trail t0 going) legal.entries (by legal.timeline legal.connections legal.unfolds legal.happened legal.rests (subst (KeepsPromises going) (sym legal.entries) legal.promises))
+    subst (LegalByMoments trail t0 going) legal.entries (by legal.timeline legal.connections legal.unfolds legal.happened legal.stands legal.none_owed (subst (KeepsPromises going) (sym legal.entries) legal.promises) legal.named)
   where
-    by : (past : Timeline) (cs : Connections) → Unfolds t0 (image_at trail t0) past cs → happened_of past ≡ drop t0 trail.happened → IsAtRest (image_at trail t0) past → KeepsPromises going (history_of past)
-        → LegalByMoments trail t0 going (history_of past)
-    by past cs u happened rest promises =
+    by : (past : Timeline) (cs : Connections) → Unfolds t0 (image_at trail t0) past cs → happened_of past ≡ drop t0 trail.happened → meaning (image_of (image_at trail t0) past) ≡ facts_of (image_at trail t0) past → NoneOwed (image_at trail t0) past
+        → KeepsPromises going (history_of past) → AreNamed going past [] → LegalByMoments trail t0 going (history_of past)
+    by past cs u happened exact none promises named =
         let fits : Fits trail t0 past = fits_of trail t0 past [] (append-nil (happened_of past) ∙ happened) in
         let now : now_of t0 past ≡ end_of_trail trail = omega (arith, le, ap length happened, length-drop t0 trail.happened) in
+        let rest : IsAtRest (image_at trail t0) past = near_of (meaning (image_of (image_at trail t0) past)) (facts_of (image_at trail t0) past) exact in
         record {
           connections = conns trail t0 past cs u;
           at_first = conns_first trail t0 past cs u;
@@ -176,5 +205,9 @@ legal_by_moments trail t0 going history le legal =
           rests = λ i t le from to end. near_with (meaning (image_at trail t)) (meaning (image_at trail (moment_of t0 (history_of past) i))) (conns trail t0 past cs u i)
               (rests_now trail t0 past cs u fits rest (rests_of trail t0 past cs u fits) i t le from to (omega (arith, end, now)));
           happens = λ t h lo at. happens_of trail t0 past cs u fits t h lo (omega (arith, now, get_within trail.happened t h at)) at;
+          stands = ap (λ s. with_connections s (conns trail t0 past cs u (length (history_of past))))
+              (ap (λ m. meaning (image_at trail m)) (sym now) ∙ ap meaning (image_fits trail t0 past fits) ∙ exact ∙ sym (facts_fit trail t0 past cs u fits) ∙ ap (λ m. meaning (image_at trail m)) (sym (moment_end t0 (history_of past))));
+          none_owed = λ t lo hi. owed_of trail t0 past cs u fits none t lo (omega (arith, hi, now));
           promises = promises;
+          named = subst (λ (p : Timeline). AreNamed going p []) (sym (ap (timeline_at trail t0 (history_of past)) (sym now) ∙ weaves trail t0 past cs u fits)) named;
         }

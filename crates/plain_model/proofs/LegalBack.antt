@@ -12,8 +12,8 @@ use Rattle.plain_model.specs.Timelines.{Timeline, Happened, Entered, image_of, f
 use Rattle.plain_model.specs.Near.{Near}
 use Rattle.plain_model.specs.JobSteps.{asked_job}
 use Rattle.plain_model.specs.Follows.{Follows}
-use Rattle.plain_model.specs.OnTrail.{OnTrail}
-use Rattle.plain_model.specs.Legal.{IsPlanned, MayHappen, IsAtRest, Unfolds, AllGoing, Legal}
+use Rattle.plain_model.specs.OnTrail.{OnTrail, NoneOwed}
+use Rattle.plain_model.specs.Legal.{IsPlanned, NamesItsOwn, AreNamed, MayHappen, IsAtRest, Unfolds, AllGoing, Legal}
 use Rattle.plain_model.specs.Written.{last_moment, by_moment}
 use Rattle.plain_model.specs.ByMoments.{moment_of, with_happened, timeline_at, FollowsAt, LegalByMoments, from_moment}
 use Rattle.plain_model.proofs.Moments.{get_within, get_drop, take_next, last_moment_push, stretch_none, woven_next, woven_entry, Fits, now_of, now_next, image_fits, facts_fit}
@@ -75,6 +75,11 @@ module _ (trail : Trail) (t0 : ℕ) (going : AllGoing) (history : List Entry) (w
       (subst (λ (s : PlainState). Near (meaning (image_at trail m)) s) (sym (facts_back i m past b))
       (near_without (meaning (image_at trail m)) (meaning (image_at trail (M i))) (legal.connections i) refl refl (legal.rests i m le from to end)))
 
+  -- after the first i entries none is owed
+  owed_at : (i m : ℕ) → i ≤ length history → M i ≤ m → (i < length history → m < M (i + 1)) → m ≤ end_of_trail trail → NoneOwed (image_at trail t0) (P i m)
+  owed_at i m le from to end =
+      subst (λ (es : List Entry). NoneOwed (image_at trail t0) (timeline_at trail t0 es m)) (entries_by i m le from to) (legal.none_owed m (omega (arith, from, rises 0 i (omega arith) le)) end)
+
   back_start : Back 0 t0 (P 0 t0)
   back_start =
       subst (Back 0 t0) (sym (ap (with_happened []) (stretch_none trail t0))) (record { unfolds = legal.at_first; fits = tt; now = omega arith; entries = refl })
@@ -84,7 +89,7 @@ module _ (trail : Trail) (t0 : ℕ) (going : AllGoing) (history : List Entry) (w
       (λ some. let h : Happening = some.0 in
       let happens : MayHappen (image_at trail t0) (P i m) h = subst (λ (es : List Entry). MayHappen (image_at trail t0) (timeline_at trail t0 es m) h) (entries_by i m le from to) (legal.happens m h (omega (arith, from, rises 0 i (omega arith) le)) some.2) in
       subst (Back i (m + 1)) (sym (woven_next trail [] t0 (take i history) m h from some.2)) (record {
-        unfolds = (b.unfolds, rest_back i m (P i m) b le from to (omega (arith, end)), happens);
+        unfolds = (b.unfolds, rest_back i m (P i m) b le from to (omega (arith, end)), happens, owed_at i m le from to (omega (arith, end)));
         fits = (b.fits, ap (slice_get trail.happened) b.now ∙ some.2);
         now = omega (arith, now_next t0 (P i m) h, b.now);
         entries = b.entries;
@@ -106,12 +111,13 @@ module _ (trail : Trail) (t0 : ℕ) (going : AllGoing) (history : List Entry) (w
       let Q : PlainState → PlainState → Type 0 = λ a x.
       Follows (past_of (image_at trail t0) past) (with_connections a (legal.connections i)) e (with_connections x (legal.connections (i + 1))) e.reply
       × OnTrail (image_at trail t0) past (with_connections a (legal.connections i)) e (with_connections x (legal.connections (i + 1))) e.reply
-      × IsPlanned (image_at trail t0) past (with_connections a (legal.connections i)) (with_connections x (legal.connections (i + 1))) (asked_job a e.command) in
+      × IsPlanned (image_at trail t0) past (with_connections a (legal.connections i)) e (with_connections x (legal.connections (i + 1))) (asked_job a e.command)
+      × NamesItsOwn (image_at trail t0) past (with_connections a (legal.connections i)) e in
       let both : Q (facts_of (image_at trail t0) past) (meaning (image_of (image_at trail t0) past)) =
       subst (λ (a : PlainState). Q a (meaning (image_of (image_at trail t0) past))) (sym (facts_back i e.moment past b))
-      (subst (λ (x : Image). Q (meaning (image_at trail (M i))) (meaning x)) (sym (image_back i e.moment past b)) (F.follows, F.on_trail, F.planned)) in
+      (subst (λ (x : Image). Q (meaning (image_at trail (M i))) (meaning x)) (sym (image_back i e.moment past b)) (F.follows, F.on_trail, F.planned, F.own)) in
       subst (Back (i + 1) e.moment) (sym is) (record {
-        unfolds = (legal.connections i, b.unfolds, record { moment = sym b.now; follows = both.0; on_trail = both.1; planned = both.2 });
+        unfolds = (legal.connections i, b.unfolds, record { moment = sym b.now; follows = both.0; on_trail = both.1; planned = both.2; own = both.3; none_owed = F.none_owed });
         fits = b.fits;
         now = b.now;
         entries = ap (λ es. es ++ e ∷ []) b.entries ∙ sym (take_next history i e at);
@@ -168,6 +174,8 @@ legal_from_moments trail t0 going history within legal =
       entries = b.entries ∙ take_all n history (omega arith);
       connections = legal.connections n;
       unfolds = b.unfolds;
-      rests = rest_back trail t0 going history within legal n (end_of_trail trail) past b (omega arith) legal.ends (λ lt. absurd (omega (arith, lt))) (omega arith);
+      stands = ap meaning (image_back trail t0 going history within legal n (end_of_trail trail) past b) ∙ ap (λ s. with_connections s nobody) legal.stands ∙ sym (facts_back trail t0 going history within legal n (end_of_trail trail) past b);
+      none_owed = owed_at trail t0 going history within legal n (end_of_trail trail) (omega arith) legal.ends (λ lt. absurd (omega (arith, lt))) (omega arith);
       promises = legal.promises;
+      named = subst (λ (es : List Entry). AreNamed going (timeline_at trail t0 es (end_of_trail trail)) []) (sym (take_all n history (omega arith))) legal.named;
     }

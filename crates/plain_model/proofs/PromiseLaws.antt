@@ -2,13 +2,17 @@
 use Rattle.std.proofs.Common.{◌≡◌, ◌≢◌, ⊎_elim, ℕ, Bool, true, false, cond, refl, sym, ap, ◌∙◌, subst, Some, None, Option, is_some, ◌&&◌, List, [], ◌∷◌, ◌++◌, eqb, eq-eqb}
 use Rattle.std.specs.Prelude.{find, ◌==◌}
 use Rattle.std.proofs.lemmas.Bool.{eqb-true}
+use Rattle.cell_world.specs.Images.{Committed, Wrote, Reopened}
+use Rattle.cell_world.specs.declared.operations.Op.{Op}
 use Rattle.plain_model.specs.declared.replies.Reply.{Reply}
 use Rattle.plain_model.specs.declared.replies.Reply.TheVariants as reply
 use Rattle.plain_model.specs.declared.replies.Refusal.TheVariants as refused
 use Rattle.plain_model.specs.declared.history.Entry.{Entry}
 use Rattle.plain_model.specs.JobSteps.{asked_number}
-use Rattle.plain_model.specs.Legal.{AllGoing, Going, KeepsPromises, Promises, IsAtJob, IsAtOperation, next_of, next_answered}
-use Rattle.plain_model.specs.GoingOn.{IsOf, StillHas, GoesOn, TakesUp, NamesOperations}
+use Rattle.plain_model.specs.Timelines.{Timeline, Happened, Entered}
+use Rattle.plain_model.specs.OnTrail.{logs_put}
+use Rattle.plain_model.specs.Legal.{AllGoing, Going, KeepsPromises, Promises, IsAtJob, IsAtOperation, next_of, next_answered, AllNamedNext, AreNamed}
+use Rattle.plain_model.specs.GoingOn.{IsOf, StillHas, GoesOn, TakesUp, NamesOperations, AreNumbered, TriesNumbered}
 
 -- a search through a list with one more item
 find_more : (p : Entry → Bool) (xs : List Entry) (x : Entry) (P : Option Entry → Type 0) → ((y : Entry) → find p xs ≡ Some y → P (Some y)) → (find p xs ≡ None → P (cond (p x) (Some x) None)) → P (find p (xs ++ x ∷ []))
@@ -81,6 +85,18 @@ module _ (before after : AllGoing) (x : Entry) (on : GoesOn before after x) wher
   promises_more [] h p = (p, tt)
   promises_more (e ∷ later) h p = (promise_more e later e.reply h.0, promises_more later h.1 p)
 
+  -- so it is with the operations that were tried
+  named_next_more : (ops : List Op) (later : List Entry) → AllNamedNext before later ops → AllNamedNext after (later ++ x ∷ []) ops
+  named_next_more [] later h = tt
+  named_next_more (op ∷ ops) later h = (record { session = h.0.session; at_operation = operation_more op.number h.0.session later h.0.at_operation }, named_next_more ops later h.1)
+
+  pub named_more : (past : Timeline) (later : List Entry) → AreNamed before past later → AreNamed after past (later ++ x ∷ [])
+  named_more [] later h = tt
+  named_more (Happened (Committed place change took) ∷ past) later h = (named_next_more (logs_put change) later h.0, named_more past later h.1)
+  named_more (Happened (Wrote bytes) ∷ past) later h = named_more past later h
+  named_more (Happened (Reopened place cells) ∷ past) later h = named_more past later h
+  named_more (Entered e ∷ past) later h = named_more past (e ∷ later) h
+
 -- ---- between entries
 
 module _ (before after : AllGoing) (session : ℕ) (g : Going) (takes : TakesUp before after session g) where
@@ -112,3 +128,16 @@ module _ (before after : AllGoing) (session : ℕ) (g : Going) (takes : TakesUp 
   pub promises_stay : (history : List Entry) → NamesOperations history → KeepsPromises before history → KeepsPromises after history
   promises_stay [] some h = tt
   promises_stay (e ∷ later) some h = (promise_stays e later e.reply some.0 h.0, promises_stay later some.1 h.1)
+
+  -- so it is with the operations that were tried, whose numbers are not 0
+  named_next_stay : (ops : List Op) (later : List Entry) → AreNumbered ops → AllNamedNext before later ops → AllNamedNext after later ops
+  named_next_stay [] later some h = tt
+  named_next_stay (op ∷ ops) later some h =
+      (record { session = h.0.session; at_operation = operation_stays op.number h.0.session (next_of h.0.session later) some.0 h.0.at_operation }, named_next_stay ops later some.1 h.1)
+
+  pub named_stay : (past : Timeline) (later : List Entry) → TriesNumbered past → AreNamed before past later → AreNamed after past later
+  named_stay [] later some h = tt
+  named_stay (Happened (Committed place change took) ∷ past) later some h = (named_next_stay (logs_put change) later some.0 h.0, named_stay past later some.1 h.1)
+  named_stay (Happened (Wrote bytes) ∷ past) later some h = named_stay past later some h
+  named_stay (Happened (Reopened place cells) ∷ past) later some h = named_stay past later some h
+  named_stay (Entered e ∷ past) later some h = named_stay past (e ∷ later) some h

@@ -11,6 +11,7 @@ use Rattle.plain_model.specs.declared.replies.Reply.{Reply}
 use Rattle.plain_model.specs.declared.history.Entry.{Entry}
 use Rattle.plain_model.specs.Lines.{lines, entry_text}
 use Rattle.plain_model.specs.Timelines.{Timeline, Happened, Entered, image_of, facts_of, history_of, written_of}
+use Rattle.plain_model.specs.OnTrail.{NoneOwed}
 use Rattle.plain_model.specs.Legal.{IsAtRest, MayHappen, MayEnter}
 use Rattle.plain_model.specs.Written.{Mode, EachReply, Summary, summary, IsPrefixOf, IsQuietAt, surely_written, WrittenSoFar}
 use Rattle.plain_model.specs.Running.{AllSound, Running, bytes_of, text_of, Owes, Owing, Recovering}
@@ -121,16 +122,17 @@ module _ (since : ℕ) (start : Image) (mode : Mode) where
   begins sound = by mode sound
     where
       by : (mode : Mode) → Sound start → Owing since start mode [] nobody []
-      by (EachReply tagged) sound = record { run = record { unfolds = refl; exact = refl; sound = sound; was_written = tt; written = record { enough = ([], refl); no_more = ([], refl) } }; owes = refl }
-      by Summary sound = record { run = record { unfolds = refl; exact = refl; sound = sound; was_written = tt; written = ([], refl) }; owes = (refl, refl) }
+      by (EachReply tagged) sound = record { run = record { unfolds = refl; exact = refl; none_owed = λ number is. absurd cc; sound = sound; was_written = tt; written = record { enough = ([], refl); no_more = ([], refl) } }; owes = refl }
+      by Summary sound = record { run = record { unfolds = refl; exact = refl; none_owed = λ number is. absurd cc; sound = sound; was_written = tt; written = ([], refl) }; owes = (refl, refl) }
 
   -- something happened that leaves what the stores stand for
   pub goes_on : (past : Timeline) (connections : Connections) (h : Happening) → Running since start mode past connections
       → MayHappen start past h → Sound (after_one (image_of start past) h) → meaning (after_one (image_of start past) h) ≡ meaning (image_of start past)
-      → WrittenSoFar mode (Happened h ∷ past) → Running since start mode (Happened h ∷ past) connections
-  goes_on past connections h run happens sound same written = record {
-    unfolds = (run.unfolds, near_of (meaning (image_of start past)) (facts_of start past) run.exact, happens);
+      → NoneOwed start (Happened h ∷ past) → WrittenSoFar mode (Happened h ∷ past) → Running since start mode (Happened h ∷ past) connections
+  goes_on past connections h run happens sound same none written = record {
+    unfolds = (run.unfolds, near_of (meaning (image_of start past)) (facts_of start past) run.exact, happens, run.none_owed);
     exact = same ∙ run.exact;
+    none_owed = none;
     sound = (sound, run.sound);
     was_written = (run.was_written, run.written);
     written = written;
@@ -141,6 +143,7 @@ module _ (since : ℕ) (start : Image) (mode : Mode) where
   recovers past connections rest owing = record {
     unfolds = owing.run.unfolds;
     rests = near_of (meaning (image_of start past)) (facts_of start past) owing.run.exact;
+    none_owed = owing.run.none_owed;
     sound = owing.run.sound;
     was_written = owing.run.was_written;
     written = owing.run.written;
@@ -153,6 +156,7 @@ module _ (since : ℕ) (start : Image) (mode : Mode) where
   enters_alone past before after rest e run enters written = record {
     unfolds = (before, run.unfolds, enters);
     exact = refl;
+    none_owed = enters.none_owed;
     sound = run.sound;
     was_written = (run.was_written, quiet_at mode past rest run.owes);
     written = written;
@@ -162,8 +166,9 @@ module _ (since : ℕ) (start : Image) (mode : Mode) where
   enters_with : (past : Timeline) (before after : Connections) (rest : Text) (h : Happening) (e : Entry) → Recovering since start mode past before rest → bytes_of h ≡ [] → MayHappen start past h
       → Sound (after_one (image_of start past) h) → MayEnter since start (Happened h ∷ past) e before after → WrittenSoFar mode (Entered e ∷ Happened h ∷ past) → Running since start mode (Entered e ∷ Happened h ∷ past) after
   enters_with past before after rest h e run quiet happens sound enters written = record {
-    unfolds = (before, (run.unfolds, run.rests, happens), enters);
+    unfolds = (before, (run.unfolds, run.rests, happens, run.none_owed), enters);
     exact = refl;
+    none_owed = enters.none_owed;
     sound = (sound, run.sound);
     was_written = ((run.was_written, run.written), quiet_at mode (Happened h ∷ past) rest (owes-quiet mode past h rest quiet run.owes));
     written = written;
@@ -173,10 +178,11 @@ module _ (since : ℕ) (start : Image) (mode : Mode) where
 
   -- something happened that writes nothing and leaves what the stores stand for, up to near
   pub recovering-happened : (past : Timeline) (connections : Connections) (rest : Text) (h : Happening) → Recovering since start mode past connections rest
-      → bytes_of h ≡ [] → MayHappen start past h → Sound (after_one (image_of start past) h) → IsAtRest start (Happened h ∷ past) → Recovering since start mode (Happened h ∷ past) connections rest
-  recovering-happened past connections rest h run quiet happens sound near = record {
-    unfolds = (run.unfolds, run.rests, happens);
+      → bytes_of h ≡ [] → MayHappen start past h → Sound (after_one (image_of start past) h) → IsAtRest start (Happened h ∷ past) → NoneOwed start (Happened h ∷ past) → Recovering since start mode (Happened h ∷ past) connections rest
+  recovering-happened past connections rest h run quiet happens sound near none = record {
+    unfolds = (run.unfolds, run.rests, happens, run.none_owed);
     rests = near;
+    none_owed = none;
     sound = (sound, run.sound);
     was_written = (run.was_written, run.written);
     written = written-quiet mode past h quiet run.written;
@@ -204,9 +210,9 @@ module _ (since : ℕ) (start : Image) (mode : Mode) where
   -- something happened that writes nothing and leaves what the stores stand for
   pub owing-happened : (past : Timeline) (connections : Connections) (rest : Text) (h : Happening) → Owing since start mode past connections rest
       → bytes_of h ≡ [] → MayHappen start past h → Sound (after_one (image_of start past) h) → meaning (after_one (image_of start past) h) ≡ meaning (image_of start past)
-      → Owing since start mode (Happened h ∷ past) connections rest
-  owing-happened past connections rest h owing quiet happens sound same = record {
-    run = goes_on past connections h owing.run happens sound same (written-quiet mode past h quiet owing.run.written);
+      → NoneOwed start (Happened h ∷ past) → Owing since start mode (Happened h ∷ past) connections rest
+  owing-happened past connections rest h owing quiet happens sound same none = record {
+    run = goes_on past connections h owing.run happens sound same none (written-quiet mode past h quiet owing.run.written);
     owes = owes-quiet mode past h rest quiet owing.owes;
   }
 
@@ -244,7 +250,7 @@ module _ (since : ℕ) (start : Image) (mode : Mode) where
   -- a part of what is to be written
   pub owing-wrote : (past : Timeline) (connections : Connections) (part rest : Text) → Owing since start mode past connections (part ++ rest) → Owing since start mode (Happened (Wrote part) ∷ past) connections rest
   owing-wrote past connections part rest owing = record {
-    run = goes_on past connections (Wrote part) owing.run tt (sound_now start past owing.run.sound) refl (written-part mode past part rest owing.run.written owing.owes);
+    run = goes_on past connections (Wrote part) owing.run tt (sound_now start past owing.run.sound) refl owing.run.none_owed (written-part mode past part rest owing.run.written owing.owes);
     owes = owes-wrote mode past part rest owing.owes;
   }
 
@@ -261,7 +267,7 @@ module _ (since : ℕ) (start : Image) (mode : Mode) where
 -- it is written in parts
 pub summary-wrote : (since : ℕ) (start : Image) (past : Timeline) (connections : Connections) (part : Text) → Running since start Summary past connections
     → IsPrefixOf (written_of past ++ part) (summary (history_of past)) → Running since start Summary (Happened (Wrote part) ∷ past) connections
-summary-wrote since start past connections part run front = goes_on since start Summary past connections (Wrote part) run tt (sound_now start past run.sound) refl front
+summary-wrote since start past connections part run front = goes_on since start Summary past connections (Wrote part) run tt (sound_now start past run.sound) refl run.none_owed front
 
 -- a front of it, of which nothing was written before
 pub summary-wrote_front : (since : ℕ) (start : Image) (past : Timeline) (connections : Connections) (n : ℕ) → Owing since start Summary past connections []

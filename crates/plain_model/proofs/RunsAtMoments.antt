@@ -4,17 +4,15 @@ use Rattle.std.proofs.lemmas.List.{append-nil, length-drop}
 use Rattle.std.proofs.lemmas.Bool.{cases_lt}
 use Rattle.cell_world.specs.Images.{Trail, Wrote, image_at, end_of_trail}
 use Rattle.cell_world.specs.Plain.{Connections}
-use Rattle.cell_world.specs.Meaning.{meaning}
 use Rattle.cell_world.specs.Sound.{Sound}
-use Rattle.plain_model.specs.Timelines.{Timeline, Happened, Entered, image_of, facts_of, happened_of, history_of, written_of}
-use Rattle.plain_model.specs.Legal.{AllGoing, KeepsPromises}
+use Rattle.plain_model.specs.Timelines.{Timeline, Happened, Entered, happened_of, history_of, written_of}
+use Rattle.plain_model.specs.Legal.{AllGoing, KeepsPromises, AreNamed}
 use Rattle.plain_model.specs.Written.{Mode, EachReply, Summary, summary, AllWritten}
 use Rattle.plain_model.specs.ByMoments.{RunsByMoments}
 use Rattle.plain_model.specs.Running.{AllSound, Running, Owing}
 use Rattle.plain_model.proofs.Moments.{Fits, fits_of, now_of, now_next, image_fits}
 use Rattle.plain_model.proofs.LegalAtMoments.{legal_by_moments}
 use Rattle.plain_model.proofs.WrittenAtMoments.{written_by_moments, all_by_moments}
-use Rattle.plain_model.proofs.NearLaws.{near_of}
 
 sound_fits : (trail : Trail) (t0 : ℕ) (past : Timeline) → Fits trail t0 past → AllSound (image_at trail t0) past → (t : ℕ) → t0 ≤ t → t ≤ now_of t0 past → Sound (image_at trail t)
 sound_fits trail t0 [] fits all t lo hi = let e : t0 ≡ t = omega (arith, lo, hi) in subst (λ m. Sound (image_at trail m)) e all
@@ -31,8 +29,8 @@ sound_by_moments trail t0 past le happened all t lo hi =
     sound_fits trail t0 past (fits_of trail t0 past [] (append-nil (happened_of past) ∙ happened)) all t lo (omega (arith, hi, now))
 
 pub runs_by_moments : (mode : Mode) (trail : Trail) (t0 : ℕ) (going : AllGoing) (past : Timeline) (connections : Connections) → t0 ≤ end_of_trail trail → happened_of past ≡ drop t0 trail.happened
-    → Running t0 (image_at trail t0) mode past connections → KeepsPromises going (history_of past) → RunsByMoments mode trail t0 going (history_of past)
-runs_by_moments mode trail t0 going past connections le happened run promises = record {
+    → Running t0 (image_at trail t0) mode past connections → KeepsPromises going (history_of past) → AreNamed going past [] → RunsByMoments mode trail t0 going (history_of past)
+runs_by_moments mode trail t0 going past connections le happened run promises named = record {
   sound = sound_by_moments trail t0 past le happened run.sound;
   legal = legal_by_moments trail t0 going (history_of past) le (record {
     timeline = past;
@@ -40,8 +38,10 @@ runs_by_moments mode trail t0 going past connections le happened run promises = 
     entries = refl;
     connections = connections;
     unfolds = run.unfolds;
-    rests = near_of (meaning (image_of (image_at trail t0) past)) (facts_of (image_at trail t0) past) run.exact;
+    stands = run.exact;
+    none_owed = run.none_owed;
     promises = promises;
+    named = named;
   });
   written = written_by_moments mode trail t0 past connections le run.unfolds happened run.was_written run.written;
 }

@@ -14,7 +14,7 @@ use Rattle.plain_model.specs.declared.history.Entry.{Entry}
 use Rattle.plain_model.specs.Differing.{clean}
 use Rattle.plain_model.specs.Timelines.{Timeline, Happened, Entered, image_of, happened_of, history_of}
 use Rattle.plain_model.specs.OnTrail.{logs_put, was_reopened}
-use Rattle.plain_model.specs.Legal.{MayHappen, Unfolds, AllGoing, Legal, KeepsCounter, IsDetachedIn}
+use Rattle.plain_model.specs.Legal.{MayHappen, Unfolds, AllGoing, Legal, KeepsCounter, TriesNumber, IsDetachedIn}
 use Rattle.plain_model.specs.Written.{last_moment, by_moment}
 use Rattle.plain_model.specs.ByMoments.{TrailByMoments, WasReopenedBy, from_moment, LegalByMoments}
 use Rattle.plain_model.proofs.Moments.{get_within, by_moment-later, image_more, Fits, fits_of, now_of, now_next, image_fits, last_le, all_by_now}
@@ -59,6 +59,11 @@ few_logs old new [] h = omega arith
 few_logs old new (op ∷ []) h = omega arith
 few_logs old new (op ∷ other ∷ ops) h = absurd h
 
+few_tried : (next : ℕ) (ops : List Op) → TriesNumber next ops → length ops ≤ 1
+few_tried next [] h = omega arith
+few_tried next (op ∷ []) h = omega arith
+few_tried next (op ∷ other ∷ ops) h = absurd h
+
 module _ (trail : Trail) (t0 : ℕ) where
   further : (location : Text) (h : Happening) (past : Timeline) → WasReopenedBy trail (last_moment t0 (history_of past)) (now_of t0 past) location → WasReopenedBy trail (last_moment t0 (history_of past)) (now_of t0 (Happened h ∷ past)) location
   further location h past w = record { moment = w.moment; at = w.at; cells = w.cells; after = w.after; before = omega (arith, w.before, now_next t0 past h); reopened = w.reopened; here = w.here }
@@ -92,6 +97,8 @@ module _ (trail : Trail) (t0 : ℕ) where
     counter = λ t change lo at. let h : Happening = Committed Global change true in let p : PastAt trail t0 history t h = pasts t h lo at in
         subst (λ (y : Image). KeepsCounter (next_operation (image_at trail t)) (next_operation y) (logs_put change)) (sym (image_more trail t h at))
         (subst (λ (x : Image). KeepsCounter (next_operation x) (next_operation (after_one x h)) (logs_put change)) (image_then history t h p) p.happens);
+    tried = λ t change lo at. let h : Happening = Committed Global change false in let p : PastAt trail t0 history t h = pasts t h lo at in
+        subst (λ (x : Image). TriesNumber (next_operation x) (logs_put change)) (image_then history t h p) p.happens;
     no_reopening = λ t cells lo at. (pasts t (Reopened Global cells) lo at).happens;
     one = λ t change took lo at. one_at t change took (pasts t (Committed Global change took) lo at);
     shard = λ t location change took lo at. shard_at t location change took (pasts t (Committed (Shard location) change took) lo at);
@@ -104,7 +111,7 @@ module _ (trail : Trail) (t0 : ℕ) where
     where
       one_at : (t : ℕ) (change : List Edit) (took : Bool) → PastAt trail t0 history t (Committed Global change took) → length (logs_put change) ≤ 1
       one_at t change true p = few_logs _ _ (logs_put change) p.happens
-      one_at t change false p = p.happens
+      one_at t change false p = few_tried _ (logs_put change) p.happens
 
       shard_at : (t : ℕ) (location : Text) (change : List Edit) (took : Bool) → PastAt trail t0 history t (Committed (Shard location) change took) → logs_put change ≡ []
       shard_at t location change true p = p.happens.0

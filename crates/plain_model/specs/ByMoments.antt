@@ -1,10 +1,9 @@
 -- The legal history, stated by the moments of a trail. Entries are counted from 1, and t0 counts as the moment of entry 0.
-use Rattle.std.specs.Prelude.{◌≡◌, ℕ, ◌+◌, ◌<◌, ◌≤◌, Bool, true, List, [], ◌∷◌, length, take, drop, slice_get, Some, None, IsTrue}
-use Rattle.std.specs.FinMap as map
+use Rattle.std.specs.Prelude.{◌≡◌, ℕ, ◌+◌, ◌<◌, ◌≤◌, Bool, true, false, List, [], ◌∷◌, length, take, drop, slice_get, Some, IsTrue}
 use Rattle.cell_world.specs.Texts.{Text}
 use Rattle.cell_world.specs.Keys.{same}
 use Rattle.cell_world.specs.Stores.{Store}
-use Rattle.cell_world.specs.Images.{Trail, Happening, Committed, Reopened, Global, Shard, image_at, end_of_trail, stretch, global}
+use Rattle.cell_world.specs.Images.{Trail, Place, Happening, Committed, Reopened, Global, Shard, image_at, end_of_trail, stretch, global}
 use Rattle.cell_world.specs.Plain.{PlainState, Connections, nobody, with_connections}
 use Rattle.cell_world.specs.Meaning.{meaning, next_operation}
 use Rattle.cell_world.specs.Operations.{conflicts}
@@ -18,8 +17,8 @@ use Rattle.plain_model.specs.Timelines.{Timeline, Happened, Entered, past_of}
 use Rattle.plain_model.specs.Near.{Near}
 use Rattle.plain_model.specs.JobSteps.{asked_job}
 use Rattle.plain_model.specs.Follows.{Follows}
-use Rattle.plain_model.specs.OnTrail.{OnTrail, logs_put, logs}
-use Rattle.plain_model.specs.Legal.{IsPlanned, MayHappen, IsDetachedIn, KeepsCounter, AllGoing, KeepsPromises}
+use Rattle.plain_model.specs.OnTrail.{OnTrail, NoneOwed, logs_put, logs}
+use Rattle.plain_model.specs.Legal.{IsPlanned, NamesItsOwn, MayHappen, IsDetachedIn, KeepsCounter, TriesNumber, AllGoing, KeepsPromises, AreNamed}
 use Rattle.plain_model.specs.Written.{Mode, WrittenByMoments, last_moment, by_moment}
 
 -- ---- moments
@@ -59,7 +58,11 @@ pub record FollowsAt (trail : Trail) (t0 : ℕ) (earlier : List Entry) (e : Entr
   -- and of the trail
   pub on_trail : OnTrail (image_at trail t0) (timeline_at trail t0 earlier e.moment) (standing trail (last_moment t0 earlier) before) e (standing trail e.moment after) e.reply
   -- a step of a job was planned
-  pub planned : IsPlanned (image_at trail t0) (timeline_at trail t0 earlier e.moment) (standing trail (last_moment t0 earlier) before) (standing trail e.moment after) (asked_job (standing trail (last_moment t0 earlier) before) e.command)
+  pub planned : IsPlanned (image_at trail t0) (timeline_at trail t0 earlier e.moment) (standing trail (last_moment t0 earlier) before) e (standing trail e.moment after) (asked_job (standing trail (last_moment t0 earlier) before) e.command)
+  -- it names its own operation
+  pub own : NamesItsOwn (image_at trail t0) (timeline_at trail t0 earlier e.moment) (standing trail (last_moment t0 earlier) before) e
+  -- and no other entry is owed
+  pub none_owed : NoneOwed (image_at trail t0) (Entered e ∷ timeline_at trail t0 earlier e.moment)
 
 pub record LegalByMoments (trail : Trail) (t0 : ℕ) (going : AllGoing) (history : List Entry) : Type 0 where
   -- the connections after i entries; a new run has none
@@ -73,10 +76,16 @@ pub record LegalByMoments (trail : Trail) (t0 : ℕ) (going : AllGoing) (history
   -- from the moment of entry i up to but not that of entry i + 1, and after the last entry up to the end, the stores stand for state i, up to near
   pub rests : (i t : ℕ) → i ≤ length history → moment_of t0 history i ≤ t → (i < length history → t < moment_of t0 history (i + 1)) → t ≤ end_of_trail trail
       → Near (standing trail t (connections i)) (standing trail (moment_of t0 history i) (connections i))
+  -- and at the end exactly
+  pub stands : standing trail (end_of_trail trail) (connections (length history)) ≡ standing trail (moment_of t0 history (length history)) (connections (length history))
+  -- after the entries by a moment no entry is owed
+  pub none_owed : (t : ℕ) → t0 ≤ t → t ≤ end_of_trail trail → NoneOwed (image_at trail t0) (timeline_at trail t0 (by_moment t history) t)
   -- each commit and reopening, which leads from moment t to t + 1, may happen after the entries by then
   pub happens : (t : ℕ) (h : Happening) → t0 ≤ t → slice_get trail.happened t ≡ Some h → MayHappen (image_at trail t0) (timeline_at trail t0 (by_moment t history) t) h
   -- what entries say of later ones is so
   pub promises : KeepsPromises going history
+  -- and each operation that was tried is named
+  pub named : AreNamed going (timeline_at trail t0 history (end_of_trail trail)) []
 
 -- ---- the trail by itself
 
@@ -94,6 +103,8 @@ pub record TrailByMoments (trail : Trail) (t0 : ℕ) (history : List Entry) : Ty
   -- the operation number changes only in a commit that puts one log cell, which has the number that stood
   pub counter : (t : ℕ) (change : List Edit) → t0 ≤ t → slice_get trail.happened t ≡ Some (Committed Global change true)
       → KeepsCounter (next_operation (image_at trail t)) (next_operation (image_at trail (t + 1))) (logs_put change)
+  -- and a commit that wasn't made was to put one of that number, or none
+  pub tried : (t : ℕ) (change : List Edit) → t0 ≤ t → slice_get trail.happened t ≡ Some (Committed Global change false) → TriesNumber (next_operation (image_at trail t)) (logs_put change)
   -- no commit, made or not, puts two log cells
   pub one : (t : ℕ) (change : List Edit) (took : Bool) → t0 ≤ t → slice_get trail.happened t ≡ Some (Committed Global change took) → length (logs_put change) ≤ 1
   -- none puts a log cell at a shard
@@ -110,23 +121,24 @@ pub record TrailByMoments (trail : Trail) (t0 : ℕ) (history : List Entry) : Ty
 
 -- ---- live operations, by moments
 
--- a commit from moment a on and before moment t put the log cell
-pub record WasLoggedBetween (trail : Trail) (a t number : ℕ) : Type 0 where
+-- a commit from moment t0 on and before moment t, made or not, was to put the log cell, and none of these entries after it names the number
+pub record IsOpenAt (trail : Trail) (t0 : ℕ) (earlier : List Entry) (t number : ℕ) : Type 0 where
   pub moment : ℕ  -- when
+  pub place : Place  -- where, which is the global store
   pub change : List Edit  -- by which change
-  pub after : a ≤ moment
+  pub took : Bool
+  pub after : t0 ≤ moment
   pub before : moment < t
-  pub committed : slice_get trail.happened moment ≡ Some (Committed Global change true)
+  pub committed : slice_get trail.happened moment ≡ Some (Committed place change took)
   pub puts : logs number change ≡ true
+  pub unnamed : (i : ℕ) (e : Entry) → slice_get earlier i ≡ Some e → moment < e.moment → e.operation ≡ number → ⊥
 
 -- At moment t, after these entries, the operation is live.
 pub record LiveAt (trail : Trail) (t0 : ℕ) (earlier : List Entry) (t : ℕ) (op : Op) : Type 0 where
   -- it is in the log
   pub logged : HasLog (global (image_at trail t)).log op
-  -- it was not there at t0
-  pub new : map.get (global (image_at trail t0)).log op.number ≡ None
-  -- an entry that names it came before its log cell
-  pub unnamed : (i : ℕ) (e : Entry) → slice_get earlier i ≡ Some e → e.operation ≡ op.number → WasLoggedBetween trail e.moment t op.number
+  -- its log cell was put since t0, and no entry has named it since
+  pub unnamed : IsOpenAt trail t0 earlier t op.number
 
 -- the least live operation in the way of what is reached
 pub record IsLeastInWayAt (trail : Trail) (t0 : ℕ) (earlier : List Entry) (t : ℕ) (reached : Reach) (number : ℕ) : Type 0 where

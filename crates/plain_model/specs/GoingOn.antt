@@ -2,6 +2,10 @@
 use Rattle.std.specs.Prelude.{◌≡◌, ◌≢◌, ◌⊎◌, ℕ, false, List, [], ◌∷◌, Some, None}
 use Rattle.plain_model.specs.declared.history.Entry.{Entry}
 use Rattle.plain_model.specs.declared.replies.Reply.TheVariants as reply
+use Rattle.cell_world.specs.Images.{Committed}
+use Rattle.cell_world.specs.declared.operations.Op.{Op}
+use Rattle.plain_model.specs.Timelines.{Timeline, Happened, Entered}
+use Rattle.plain_model.specs.OnTrail.{logs_put}
 use Rattle.plain_model.specs.Legal.{Going, AllGoing, is_job_running}
 
 -- ---- with an entry
@@ -41,3 +45,14 @@ pub record TakesUp (before after : AllGoing) (session : ℕ) (g : Going) : Type 
 abbrev pub NamesOperations : List Entry → Type 0
 NamesOperations [] = Unit {0}
 NamesOperations (e ∷ later) = (e.reply ≡ Some (reply.Pending 0) → ⊥) × NamesOperations later
+
+-- nor was a log cell of number 0 tried
+abbrev pub AreNumbered : List Op → Type 0
+AreNumbered [] = Unit {0}
+AreNumbered (op ∷ ops) = (op.number ≡ 0 → ⊥) × AreNumbered ops
+
+abbrev pub TriesNumbered : Timeline → Type 0
+TriesNumbered [] = Unit {0}
+TriesNumbered (Happened (Committed place change took) ∷ past) = AreNumbered (logs_put change) × TriesNumbered past
+TriesNumbered (Happened h ∷ past) = TriesNumbered past
+TriesNumbered (Entered e ∷ past) = TriesNumbered past

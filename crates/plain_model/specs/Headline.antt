@@ -235,6 +235,10 @@ pub record ComesByInput (causes : Causes) (ending : RunStatus) : Type 0 where
 abbrev pub ComesByOpening : Outside → RunStatus → Type 0
 ComesByOpening old ending = (location : Text) → TellsUnknown old location → (ending ≡ status.UnknownLocation location) ⊎ (ends_by_opening ending ≡ true)
 
+-- Where the stores name an unknown location at the opening nothing is done, whatever the status.
+abbrev pub LeavesUnknown : Outside → Outside → List Entry → Type 0
+LeavesUnknown old new history = (location : Text) → TellsUnknown old location → (history ≡ []) × (new.told ≡ old.told)
+
 -- What a status says besides its cause.
 pub record KeepsToStatus (old new : Outside) (history : List Entry) (ending : RunStatus) : Type 0 where
   -- at most as many `fault` entries as the store count rose
@@ -251,6 +255,8 @@ pub record StatusHasCause (causes : Causes) (old new : Outside) (history : List 
   -- and comes where it is so
   pub by_input : ComesByInput causes ending
   pub by_opening : ComesByOpening old ending
+  -- an unknown location is found before anything is done
+  pub unknown : LeavesUnknown old new history
   pub kept : KeepsToStatus old new history ending
 
 -- ---- all five, over a world that tells its trail

@@ -1,5 +1,5 @@
 -- Which histories a run may have on a trail, with the order in which all came as the witness.
-use Rattle.std.specs.Prelude.{◌≡◌, ◌≢◌, ◌⊎◌, ℕ, ◌+◌, ◌≤◌, Bool, true, false, ◌&&◌, ◌==◌, List, [], ◌∷◌, length, Option, Some, None, find, is_some}
+use Rattle.std.specs.Prelude.{◌≡◌, ◌≢◌, ◌⊎◌, ℕ, ◌+◌, Bool, true, false, ◌&&◌, ◌==◌, List, [], ◌∷◌, length, Option, Some, None, find, is_some}
 use Rattle.std.specs.FinMap as map
 use Rattle.cell_world.specs.Texts.{Text}
 use Rattle.cell_world.specs.Spelled.{listed}
@@ -18,11 +18,13 @@ use Rattle.plain_model.specs.declared.replies.Reply.TheVariants as reply
 use Rattle.plain_model.specs.declared.replies.Refusal.TheVariants as refused
 use Rattle.plain_model.specs.declared.history.Entry.{Entry}
 use Rattle.plain_model.specs.Differing.{clean}
+use Rattle.plain_model.specs.Refusing.{AcceptsJob}
+use Rattle.plain_model.specs.Steps.{exchange_of}
 use Rattle.plain_model.specs.Timelines.{Timeline, Happened, Entered, image_of, facts_of, happened_of, history_of, past_of}
 use Rattle.plain_model.specs.Near.{Near}
 use Rattle.plain_model.specs.JobSteps.{asked_number, asked_job, stepped}
 use Rattle.plain_model.specs.Follows.{Follows}
-use Rattle.plain_model.specs.OnTrail.{OnTrail, logs_put, was_reopened}
+use Rattle.plain_model.specs.OnTrail.{OnTrail, NoneOwed, WasTried, logs_put, was_reopened}
 
 -- ---- what may happen
 
@@ -35,6 +37,12 @@ abbrev pub KeepsCounter : ℕ → ℕ → List Op → Type 0
 KeepsCounter old new [] = new ≡ old
 KeepsCounter old new (op ∷ []) = (op.number ≡ old) × (new ≡ old + 1)
 KeepsCounter old new ops = ⊥
+
+-- One that wasn't made was to put one log cell at most, of the number that stands.
+abbrev pub TriesNumber : ℕ → List Op → Type 0
+TriesNumber next [] = Unit {0}
+TriesNumber next (op ∷ []) = op.number ≡ next
+TriesNumber next ops = ⊥
 
 abbrev pub IsDetachedIn : Image → Text → Type 0
 IsDetachedIn image location = map.get (global image).away location ≡ Some away.Detached
@@ -55,7 +63,7 @@ abbrev pub MayHappen : Image → Timeline → Happening → Type 0
 MayHappen start past (Committed place change true) = MayCommit past place change (image_of start past) (image_of start (Happened (Committed place change true) ∷ past))
 -- one that wasn't made was to put no log cell at a shard either, and came after a reopening too; at the global store it was to put one at most
 MayHappen start past (Committed (Shard location) change false) = (logs_put change ≡ []) × (IsDetachedIn (image_of start past) location → was_reopened location past ≡ true)
-MayHappen start past (Committed Global change false) = length (logs_put change) ≤ 1
+MayHappen start past (Committed Global change false) = TriesNumber (next_operation (image_of start past)) (logs_put change)
 MayHappen start past (Wrote bytes) = Unit {0}
 -- no reopening concerns the global store
 MayHappen start past (Reopened Global cells) = ⊥
@@ -70,13 +78,8 @@ pub record IsPlannedIn (image : Image) (number : ℕ) (op : Op) : Type 0 where
   pub stands : map.get (global image).jobs number ≡ Some job
   -- and the operation is the row of its table
   pub row : job_step (meaning image) job ≡ Replace (listed op.olds) (listed op.news) op.extra
-
--- Its log cell was put in this run, on an image in which it was.
-abbrev pub WasPlanned : Image → ℕ → Op → Timeline → Type 0
-WasPlanned start number op [] = ⊥
-WasPlanned start number op (Happened (Committed Global change true) ∷ past) = ((logs_put change ≡ op ∷ []) × IsPlannedIn (image_of start past) number op) ⊎ WasPlanned start number op past
-WasPlanned start number op (Happened h ∷ past) = WasPlanned start number op past
-WasPlanned start number op (Entered e ∷ past) = WasPlanned start number op past
+  -- and the image accepts a step of the job
+  pub accepted : AcceptsJob (meaning image) number
 
 -- the image before the latest happening
 abbrev pub image_before : Image → Timeline → Image
@@ -84,16 +87,34 @@ image_before start (Happened h ∷ past) = image_of start past
 image_before start past = image_of start past
 
 -- a step of a job that was made by an operation: it stood in the log up to then, was planned, and the step is what it does
-pub record IsMadeBy (start : Image) (past : Timeline) (A B : PlainState) (job : JobRow) (op : Op) : Type 0 where
+pub record IsMadeBy (start : Image) (past : Timeline) (A : PlainState) (e : Entry) (B : PlainState) (job : JobRow) (op : Op) : Type 0 where
   pub logged : HasLog (global (image_before start past)).log op  -- it stood in the log just before
-  pub planned : WasPlanned start job.number op past  -- it was the table's row when it was logged
+  -- since this session's previous entry its log cell was put, on an image in which it was the table's row
+  pub planned : WasTried start e.session (λ (image : Image) (tried : Op). (tried ≡ op) × IsPlannedIn image job.number tried) past
   -- and the step is what it does
   pub step : stepped A job (Replace (listed op.olds) (listed op.news) op.extra) ≡ Some B
 
+-- the finish of a job, which the state before it accepts
+pub record IsFinishOf (A B : PlainState) (job : JobRow) : Type 0 where
+  pub step : stepped A job Finish ≡ Some B
+  pub accepted : AcceptsJob A job.number
+
 -- An entry of a `step` or a `run`, answered or not, changes no mapping and no job, or is the finish, or was made by an operation.
-abbrev pub IsPlanned : Image → Timeline → PlainState → PlainState → Option JobRow → Type 0
-IsPlanned start past A B None = Unit {0}
-IsPlanned start past A B (Some job) = ((B.mappings ≡ A.mappings) × (B.jobs ≡ A.jobs)) ⊎ (stepped A job Finish ≡ Some B) ⊎ ((op : Op) × IsMadeBy start past A B job op)
+abbrev pub IsPlanned : Image → Timeline → PlainState → Entry → PlainState → Option JobRow → Type 0
+IsPlanned start past A e B None = Unit {0}
+IsPlanned start past A e B (Some job) = ((B.mappings ≡ A.mappings) × (B.jobs ≡ A.jobs)) ⊎ IsFinishOf A B job ⊎ ((op : Op) × IsMadeBy start past A e B job op)
+
+-- ---- an entry names its own operation
+
+-- The operation is the command's: what the command exchanges in the state before the entry, or the next step of its job in the image in which its log cell was tried.
+abbrev pub IsOwnOf : PlainState → Command → Option ℕ → Image → Op → Type 0
+IsOwnOf A c None image op = (listed op.olds ≡ (exchange_of A c).0) × (listed op.news ≡ (exchange_of A c).1)
+IsOwnOf A c (Some number) image op = IsPlannedIn image number op
+
+-- An entry names no operation, or one whose log cell was tried for its command since this session's previous entry.
+abbrev pub NamesItsOwn : Image → Timeline → PlainState → Entry → Type 0
+NamesItsOwn start past A e = (e.operation ≡ 0)
+    ⊎ WasTried start e.session (λ (image : Image) (op : Op). (op.number ≡ e.operation) × IsOwnOf A e.command (asked_number e.command) image op) past
 
 -- ---- what may be entered
 
@@ -106,12 +127,16 @@ pub record MayEnter (since : ℕ) (start : Image) (past : Timeline) (e : Entry) 
   -- and of the trail
   pub on_trail : OnTrail start past (with_connections (facts_of start past) before) e (with_connections (meaning (image_of start past)) after) e.reply
   -- a step of a job was planned
-  pub planned : IsPlanned start past (with_connections (facts_of start past) before) (with_connections (meaning (image_of start past)) after) (asked_job (facts_of start past) e.command)
+  pub planned : IsPlanned start past (with_connections (facts_of start past) before) e (with_connections (meaning (image_of start past)) after) (asked_job (facts_of start past) e.command)
+  -- it names its own operation
+  pub own : NamesItsOwn start past (with_connections (facts_of start past) before) e
+  -- and no other entry is owed: the commit just before, if it took a live operation's log cell away, was of the operation that it names
+  pub none_owed : NoneOwed start (Entered e ∷ past)
 
--- The timeline may come about, with these connections at its end.
+-- The timeline may come about, with these connections at its end. Before anything happens no entry is owed.
 abbrev pub Unfolds : ℕ → Image → Timeline → Connections → Type 0
 Unfolds since start [] connections = connections ≡ nobody
-Unfolds since start (Happened h ∷ past) connections = Unfolds since start past connections × IsAtRest start past × MayHappen start past h
+Unfolds since start (Happened h ∷ past) connections = Unfolds since start past connections × IsAtRest start past × MayHappen start past h × NoneOwed start past
 Unfolds since start (Entered e ∷ past) connections = (before : Connections) × Unfolds since start past before × MayEnter since start past e before connections
 
 -- ---- promises: what an entry says of later ones
@@ -174,6 +199,22 @@ abbrev pub KeepsPromises : AllGoing → List Entry → Type 0
 KeepsPromises going [] = Unit {0}
 KeepsPromises going (e ∷ later) = Promises going e later e.reply × KeepsPromises going later
 
+-- Some session's next entry names the operation, or it has it going.
+pub record IsNamedNext (going : AllGoing) (later : List Entry) (number : ℕ) : Type 0 where
+  pub session : ℕ
+  pub at_operation : IsAtOperation number (going session) (next_of session later)
+
+abbrev pub AllNamedNext : AllGoing → List Entry → List Op → Type 0
+AllNamedNext going later [] = Unit {0}
+AllNamedNext going later (op ∷ ops) = IsNamedNext going later op.number × AllNamedNext going later ops
+
+-- Each operation whose log cell a commit, made or not, was to put is named by the next entry of some session, or some session has it going at the end. `later` are the entries after the timeline.
+abbrev pub AreNamed : AllGoing → Timeline → List Entry → Type 0
+AreNamed going [] later = Unit {0}
+AreNamed going (Happened (Committed place change took) ∷ past) later = AllNamedNext going later (logs_put change) × AreNamed going past later
+AreNamed going (Happened h ∷ past) later = AreNamed going past later
+AreNamed going (Entered e ∷ past) later = AreNamed going past (e ∷ later)
+
 -- ---- legal
 
 -- The history is legal on the trail from its start, which is moment `since`; each session has this going at the end.
@@ -186,7 +227,11 @@ pub record Legal (since : ℕ) (trail : Trail) (going : AllGoing) (history : Lis
   pub connections : Connections
   -- it may have come about so
   pub unfolds : Unfolds since trail.start timeline connections
-  -- at the end too the stores stand for the state after the latest entry
-  pub rests : IsAtRest trail.start timeline
+  -- at the end the stores stand exactly for the state after the latest entry
+  pub stands : meaning (image_of trail.start timeline) ≡ facts_of trail.start timeline
+  -- and no entry is owed
+  pub none_owed : NoneOwed trail.start timeline
   -- what entries say of later ones is so
   pub promises : KeepsPromises going history
+  -- and each operation that was tried is named
+  pub named : AreNamed going timeline []

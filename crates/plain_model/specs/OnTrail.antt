@@ -1,5 +1,5 @@
 -- What an entry's reply says of the trail: live operations, what a site holds after recovery, what was tried.
-use Rattle.std.specs.Prelude.{◌≡◌, ◌⊎◌, ℕ, ◌≤◌, ◌^◌, Bool, true, false, ◌||◌, ◌==◌, List, [], ◌∷◌, ◌++◌, Option, Some, None, if◌then◌else◌, IsTrue}
+use Rattle.std.specs.Prelude.{◌≡◌, ◌⊎◌, ℕ, ◌≤◌, ◌^◌, Bool, true, false, ◌&&◌, ◌||◌, not, ◌==◌, List, [], ◌∷◌, ◌++◌, Option, Some, None, if◌then◌else◌, IsTrue}
 use Rattle.std.specs.List.{list_any}
 use Rattle.std.specs.FinMap as map
 use Rattle.std.specs.Bool.{MatchBool}
@@ -8,7 +8,7 @@ use Rattle.cell_world.specs.Lists.{SomeOf}
 use Rattle.cell_world.specs.Keys.{same}
 use Rattle.cell_world.specs.Spelled.{listed}
 use Rattle.cell_world.specs.Stores.{Store, empty_store}
-use Rattle.cell_world.specs.Images.{Image, Global, Shard, Committed, Reopened, global}
+use Rattle.cell_world.specs.Images.{Image, Shard, Committed, Reopened, global}
 use Rattle.cell_world.specs.Plain.{PlainState, Held, holds_nothing}
 use Rattle.cell_world.specs.Meaning.{next_operation}
 use Rattle.cell_world.specs.Operations.{hull_of, conflicts}
@@ -53,21 +53,27 @@ logs number change = list_any (λ (op : Op). op.number == number) (logs_put chan
 
 -- ---- live operations
 
--- an entry since the made commit of its log cell names the operation
-abbrev pub is_named : ℕ → Timeline → Bool
-is_named number [] = false
-is_named number (Happened (Committed Global change true) ∷ past) = if logs number change then false else is_named number past
-is_named number (Happened h ∷ past) = is_named number past
-is_named number (Entered e ∷ past) = (e.operation == number) || is_named number past
+-- A number is open from a commit, made or not, that was to put its log cell, until an entry names it.
+abbrev pub is_open : ℕ → Timeline → Bool
+is_open number [] = false
+is_open number (Happened (Committed place change took) ∷ past) = logs number change || is_open number past
+is_open number (Happened h ∷ past) = is_open number past
+is_open number (Entered e ∷ past) = is_open number past && not (e.operation == number)
 
 -- An operation is live from the commit of its log cell in this run until its commit, or until an entry names it.
 pub record IsLive (start : Image) (past : Timeline) (op : Op) : Type 0 where
   -- it is in the log now
   pub logged : HasLog (global (image_of start past)).log op
-  -- it was not there at the start
-  pub new : map.get (global start).log op.number ≡ None
-  -- no entry has named it since it was logged
-  pub unnamed : is_named op.number past ≡ false
+  -- its log cell was put in this run, and no entry has named it since
+  pub unnamed : is_open op.number past ≡ true
+
+-- the log has a cell of this number
+abbrev pub InLog : Image → ℕ → Type 0
+InLog image number = map.contains_key (global image).log number ≡ true
+
+-- Each open number stands in the log: no entry is owed.
+abbrev pub NoneOwed : Image → Timeline → Type 0
+NoneOwed start past = (number : ℕ) → is_open number past ≡ true → InLog (image_of start past) number
 
 -- ---- what a command reaches
 
@@ -142,12 +148,12 @@ HoldsThen start past A B other = Unit {0}
 
 -- ---- what was tried
 
--- Since this session's previous entry a commit, made or not, was to put the log cell of such an operation.
-abbrev pub WasTried : ℕ → (Op → Type 0) → Timeline → Type 0
-WasTried session P [] = ⊥
-WasTried session P (Happened (Committed place change took) ∷ past) = SomeOf P (logs_put change) ⊎ WasTried session P past
-WasTried session P (Happened h ∷ past) = WasTried session P past
-WasTried session P (Entered e ∷ past) = MatchBool (e.session == session) ⊥ (WasTried session P past)
+-- Since this session's previous entry a commit, made or not, was to put the log cell of such an operation, on such an image.
+abbrev pub WasTried : Image → ℕ → (Image → Op → Type 0) → Timeline → Type 0
+WasTried start session P [] = ⊥
+WasTried start session P (Happened (Committed place change took) ∷ past) = SomeOf (P (image_of start past)) (logs_put change) ⊎ WasTried start session P past
+WasTried start session P (Happened h ∷ past) = WasTried start session P past
+WasTried start session P (Entered e ∷ past) = MatchBool (e.session == session) ⊥ (WasTried start session P past)
 
 -- the operation of this number takes the mapping offline, and does no more
 pub record TakesOffline (number : ℕ) (p : Piece) (op : Op) : Type 0 where
@@ -156,28 +162,28 @@ pub record TakesOffline (number : ℕ) (p : Piece) (op : Op) : Type 0 where
   pub new : listed op.news ≡ record p { status = Offline } ∷ []
 
 -- Once the putting of its own log cell was tried, a faulted `offline` has ended the connections of its mapping in both cases.
-abbrev pub EndsIfTried : Timeline → Entry → PlainState → PlainState → Option Piece → Type 0
-EndsIfTried past e A B None = Unit {0}
-EndsIfTried past e A B (Some p) = WasTried e.session (TakesOffline e.operation p) past → B.connections ≡ ended_under (Some p) A.connections
+abbrev pub EndsIfTried : Image → Timeline → Entry → PlainState → PlainState → Option Piece → Type 0
+EndsIfTried start past e A B None = Unit {0}
+EndsIfTried start past e A B (Some p) = WasTried start e.session (λ (image : Image) (op : Op). TakesOffline e.operation p op) past → B.connections ≡ ended_under (Some p) A.connections
 
 -- the job's next step, with the batch end of now, takes the mapping offline
 abbrev pub IsOfflineNow : PlainState → JobRow → Piece → Type 0
 IsOfflineNow A job p = (put : Extra) × (job_step A job ≡ Replace (p ∷ []) (record p { status = Offline } ∷ []) put)
 
-pub record FaultInJob (past : Timeline) (e : Entry) (A B : PlainState) (job : JobRow) : Type 0 where
+pub record FaultInJob (start : Image) (past : Timeline) (e : Entry) (A B : PlainState) (job : JobRow) : Type 0 where
   -- so in a job
-  pub tried : (p : Piece) → WasTried e.session (TakesOffline e.operation p) past → B.connections ≡ ended_under (Some p) A.connections
+  pub tried : (p : Piece) → WasTried start e.session (λ (image : Image) (op : Op). TakesOffline e.operation p op) past → B.connections ≡ ended_under (Some p) A.connections
   -- connections end without the step only where it is the offline, or where the one that was tried is
   pub cause : (B ≡ A) ⊎ TakesJobStep A B job
-      ⊎ ((p : Piece) × (IsOfflineNow A job p ⊎ WasTried e.session (TakesOffline e.operation p) past) × (B ≡ with_ended A (Some p)))
+      ⊎ ((p : Piece) × (IsOfflineNow A job p ⊎ WasTried start e.session (λ (image : Image) (op : Op). TakesOffline e.operation p op) past) × (B ≡ with_ended A (Some p)))
 
 -- a faulted `attach` left the old state, or came after a reopening and left the state that an accepted one gives
-abbrev pub FaultOnTrail : Timeline → Entry → PlainState → PlainState → Command → Option JobRow → Type 0
-FaultOnTrail past e A B (command.Offline name key token) job = EndsIfTried past e A B (mapping_of A name key)
-FaultOnTrail past e A B (command.Attach location) job = Near B A
+abbrev pub FaultOnTrail : Image → Timeline → Entry → PlainState → PlainState → Command → Option JobRow → Type 0
+FaultOnTrail start past e A B (command.Offline name key token) job = EndsIfTried start past e A B (mapping_of A name key)
+FaultOnTrail start past e A B (command.Attach location) job = Near B A
     ⊎ ((was_reopened location past ≡ true) × Near B (plain_step (kept_of A location past) A e.session e.command).0)
-FaultOnTrail past e A B c None = Unit {0}
-FaultOnTrail past e A B c (Some job) = FaultInJob past e A B job
+FaultOnTrail start past e A B c None = Unit {0}
+FaultOnTrail start past e A B c (Some job) = FaultInJob start past e A B job
 
 -- ---- all replies
 
@@ -185,7 +191,7 @@ FaultOnTrail past e A B c (Some job) = FaultInJob past e A B job
 abbrev pub OnTrail : Image → Timeline → PlainState → Entry → PlainState → Option Reply → Type 0
 OnTrail start past A e B (Some reply.Ok) = HoldsThen start past A B e.command
 OnTrail start past A e B (Some (reply.Pending number)) = IsLeastInWay start past (reach_of_command A e.command) number
-OnTrail start past A e B (Some reply.Fault) = FaultOnTrail past e A B e.command (asked_job A e.command)
+OnTrail start past A e B (Some reply.Fault) = FaultOnTrail start past e A B e.command (asked_job A e.command)
 -- the plain step refuses so, or the counter's operation number is 2^63
 OnTrail start past A e B (Some (reply.Refused refused.Full)) = (refusal A e.session e.command ≡ Some refused.Full) ⊎ (next_operation (image_of start past) ≡ 2 ^ 63)
 OnTrail start past A e B answer = Unit {0}

@@ -1,5 +1,5 @@
 -- Which refusal a command gets: of its row in the command table the first that holds.
-use Rattle.std.specs.Prelude.{ℕ, ◌-◌, Bool, true, false, ◌&&◌, ◌||◌, not, nat_le, nat_lt, ◌==◌, List, [], ◌∷◌, length, Option, Some, None, option_map, option_and_then, is_some, is_none, if◌then◌else◌, find, filter, slice_get, sum_by}
+use Rattle.std.specs.Prelude.{◌≡◌, ℕ, ◌-◌, Bool, true, false, ◌&&◌, ◌||◌, not, nat_le, nat_lt, ◌==◌, List, [], ◌∷◌, length, Option, Some, None, option_map, option_and_then, is_some, is_none, if◌then◌else◌, find, filter, slice_get, sum_by}
 use Rattle.std.specs.List.{list_any}
 use Rattle.std.specs.FinMap as map
 use Rattle.std.specs.FinSet as set
@@ -338,6 +338,12 @@ abbrev pub side_checks : PlainState → Text → Text → Side → Option Differ
 side_checks s location name side.Global difference = []
 side_checks s location name side.Shard difference = has_token (differing_mapping s location name difference) ∷ overlap_elsewhere s location name difference ∷ []
 
+-- of a step of a job: it stands, and its source and its target are attached
+abbrev pub checks_of_job : PlainState → ℕ → List Check
+checks_of_job s number =
+    let job = job_of_number s number in
+    no_job job ∷ detached s (source_of_job job) ∷ unresolved s (source_of_job job) ∷ detached s (target_of_job job) ∷ unresolved s (target_of_job job) ∷ []
+
 -- The checks of a command. A session's `peek` is never refused; `step` and `run` are refused too while another session's
 -- `step` or `run` of the job hasn't ended, and mapping commands and job steps while no operation number is left, of which the plain state knows nothing.
 abbrev pub checks : PlainState → ℕ → Command → List Check
@@ -435,12 +441,8 @@ checks s session (command.Job name low high location batch) =
     ∷ has_token piece ∷ owner_offline piece
     ∷ no_location s location ∷ not_a_shard s name location ∷ detached s (Some location) ∷ unresolved s (Some location)
     ∷ same_shard location piece ∷ full_of_jobs s ∷ []
-checks s session (command.Step number) =
-    let job = job_of_number s number in
-    no_job job ∷ detached s (source_of_job job) ∷ unresolved s (source_of_job job) ∷ detached s (target_of_job job) ∷ unresolved s (target_of_job job) ∷ []
-checks s session (command.Run number) =
-    let job = job_of_number s number in
-    no_job job ∷ detached s (source_of_job job) ∷ unresolved s (source_of_job job) ∷ detached s (target_of_job job) ∷ unresolved s (target_of_job job) ∷ []
+checks s session (command.Step number) = checks_of_job s number
+checks s session (command.Run number) = checks_of_job s number
 
 -- ---- the first that holds
 
@@ -451,6 +453,10 @@ first_refusal (check ∷ more) = if check.0 then Some check.1 else first_refusal
 -- the refusal that the command gets, if it is refused
 unfoldable pub refusal : PlainState → ℕ → Command → Option Refusal
 refusal s session command = first_refusal (checks s session command)
+
+-- the state accepts a step of the job
+abbrev pub AcceptsJob : PlainState → ℕ → Type 0
+AcceptsJob s number = first_refusal (checks_of_job s number) ≡ None
 
 -- the refusals of a list of checks, in order
 abbrev pub refusals_of : List Check → List Refusal

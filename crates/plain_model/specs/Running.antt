@@ -8,6 +8,7 @@ use Rattle.cell_world.specs.Sound.{Sound}
 use Rattle.plain_model.specs.declared.history.Entry.{Entry}
 use Rattle.plain_model.specs.Lines.{lines, entry_text}
 use Rattle.plain_model.specs.Timelines.{Timeline, Happened, Entered, image_of, facts_of, history_of, written_of}
+use Rattle.plain_model.specs.OnTrail.{NoneOwed}
 use Rattle.plain_model.specs.Legal.{Unfolds, IsAtRest}
 use Rattle.plain_model.specs.Written.{Mode, EachReply, Summary, WrittenSoFar, WasWritten}
 
@@ -22,6 +23,8 @@ pub record Running (since : ℕ) (start : Image) (mode : Mode) (past : Timeline)
   pub unfolds : Unfolds since start past connections
   -- the stores stand exactly for the state of the latest entry
   pub exact : meaning (image_of start past) ≡ facts_of start past
+  -- no entry is owed
+  pub none_owed : NoneOwed start past
   -- the stores were sound at each moment
   pub sound : AllSound start past
   -- only what happened was written, before each thing and now
@@ -58,6 +61,7 @@ pub record Owing (since : ℕ) (start : Image) (mode : Mode) (past : Timeline) (
 pub record Recovering (since : ℕ) (start : Image) (mode : Mode) (past : Timeline) (connections : Connections) (rest : Text) : Type 0 where
   pub unfolds : Unfolds since start past connections
   pub rests : IsAtRest start past
+  pub none_owed : NoneOwed start past
   pub sound : AllSound start past
   pub was_written : WasWritten mode past
   pub written : WrittenSoFar mode past

@@ -1,7 +1,10 @@
 //! Laws of a run: how the run so far goes on, and what follows from it at each moment. Each is the contract of a function that does nothing.
-ghost use Rattle.std.specs.Prelude.{◌≡◌, ◌↔◌, ◌≤◌, ◌+◌, ◌++◌, ◌∷◌, [], ℕ, Bool, List, length, Some, None, drop, take, slice_get};
+ghost use Rattle.std.specs.Prelude.{true, ◌≡◌, ◌↔◌, ◌≤◌, ◌+◌, ◌++◌, ◌∷◌, [], ℕ, Bool, List, length, Some, None, drop, take, slice_get};
 ghost use Rattle.cell_world.specs.Texts.{Text};
-ghost use Rattle.cell_world.specs.Images.{Image, Trail, Happening, Wrote, after_one, image_at, end_of_trail, extended};
+ghost use Rattle.cell_world.specs.Stores.{Store};
+ghost use Rattle.cell_world.specs.declared.operations.Op.{Op};
+ghost use Rattle.cell_world.specs.declared.changes.Edit.{Edit};
+ghost use Rattle.cell_world.specs.Images.{Image, Global, Shard, Committed, Reopened, Trail, Happening, Wrote, after_one, image_at, end_of_trail, extended};
 ghost use Rattle.cell_world.specs.Plain.{PlainState, Connections, nobody, with_connections};
 ghost use Rattle.cell_world.specs.Meaning.{meaning};
 ghost use Rattle.cell_world.specs.Sound.{Sound};
@@ -11,12 +14,12 @@ ghost use Rattle.plain_model.specs.declared.history.Entry.{Entry};
 ghost use Rattle.plain_model.specs.Timelines.{Timeline, Happened, Entered, image_of, happened_of, history_of, written_of, Past, past_of};
 ghost use Rattle.plain_model.specs.Near.{Near};
 ghost use Rattle.plain_model.specs.Follows.{Follows};
-ghost use Rattle.plain_model.specs.OnTrail.{reach_of_command};
-ghost use Rattle.plain_model.specs.Legal.{Going, AllGoing, Promises, KeepsPromises, Legal, IsAtRest, MayHappen, MayEnter};
-ghost use Rattle.plain_model.specs.GoingOn.{GoesOn, TakesUp, NamesOperations};
+ghost use Rattle.plain_model.specs.OnTrail.{reach_of_command, logs_put, is_open, InLog, NoneOwed};
+ghost use Rattle.plain_model.specs.Legal.{Going, AllGoing, Promises, KeepsPromises, AreNamed, Legal, IsAtRest, Unfolds, MayHappen, MayEnter};
+ghost use Rattle.plain_model.specs.GoingOn.{GoesOn, TakesUp, NamesOperations, TriesNumbered};
 ghost use Rattle.plain_model.specs.Written.{Mode, EachReply, Summary, summary, all_lines, IsPrefixOf, WrittenSoFar, WasWritten, WrittenByMoments, AllWritten, last_moment};
 ghost use Rattle.plain_model.specs.ByMoments.{LegalByMoments, TrailByMoments, IsLeastInWayAt, RunsByMoments, from_moment, timeline_at, standing};
-ghost use Rattle.plain_model.specs.Running.{Running, Owing, Recovering, bytes_of, text_of};
+ghost use Rattle.plain_model.specs.Running.{AllSound, Running, Owing, Recovering, bytes_of, text_of};
 ghost use Rattle.plain_model.specs.RunningAlone.{RunningAlone, entries_of};
 ghost use Rattle.plain_model.specs.Headline.{FollowsTo};
 
@@ -31,10 +34,29 @@ pub fn run_begins()
 pub fn run_goes_on()
     ensures happened { (since : ℕ) (start : Image) (mode : Mode) (past : Timeline) (connections : Connections) (rest : Text) (h : Happening) → Owing since start mode past connections rest →
         bytes_of h ≡ [] → MayHappen start past h → Sound (after_one (image_of start past) h) → meaning (after_one (image_of start past) h) ≡ meaning (image_of start past) →
-        Owing since start mode (Happened h ∷ past) connections rest }
+        NoneOwed start (Happened h ∷ past) → Owing since start mode (Happened h ∷ past) connections rest }
     ensures whatever_is_written { (since : ℕ) (start : Image) (mode : Mode) (past : Timeline) (connections : Connections) (h : Happening) → Running since start mode past connections →
         MayHappen start past h → Sound (after_one (image_of start past) h) → meaning (after_one (image_of start past) h) ≡ meaning (image_of start past) →
-        WrittenSoFar mode (Happened h ∷ past) → Running since start mode (Happened h ∷ past) connections }
+        NoneOwed start (Happened h ∷ past) → WrittenSoFar mode (Happened h ∷ past) → Running since start mode (Happened h ∷ past) connections }
+{}
+
+/// No entry is owed at first, after what writes, opens a shard again or changes a shard, after a log cell is put, and after a commit that leaves the log cells that are open; nor after the entry of an operation.
+pub fn none_is_owed()
+    ensures at_first { (start : Image) → NoneOwed start [] }
+    ensures written { (start : Image) (past : Timeline) (bytes : Text) → NoneOwed start past → NoneOwed start (Happened (Wrote bytes) ∷ past) }
+    ensures reopened { (start : Image) (past : Timeline) (location : Text) (cells : Store) → NoneOwed start past → NoneOwed start (Happened (Reopened (Shard location) cells) ∷ past) }
+    ensures local { (start : Image) (past : Timeline) (location : Text) (change : List Edit) (took : Bool) → logs_put change ≡ [] → NoneOwed start past → NoneOwed start (Happened (Committed (Shard location) change took) ∷ past) }
+    ensures kept { (start : Image) (past : Timeline) (change : List Edit) (took : Bool) → logs_put change ≡ [] →
+        ((number : ℕ) → is_open number past ≡ true → InLog (after_one (image_of start past) (Committed Global change took)) number) → NoneOwed start (Happened (Committed Global change took) ∷ past) }
+    ensures logged { (start : Image) (past : Timeline) (change : List Edit) (op : Op) → logs_put change ≡ op ∷ [] → InLog (after_one (image_of start past) (Committed Global change true)) op.number →
+        ((number : ℕ) → is_open number past ≡ true → InLog (after_one (image_of start past) (Committed Global change true)) number) → NoneOwed start (Happened (Committed Global change true) ∷ past) }
+    ensures entered { (start : Image) (past : Timeline) (e : Entry) → NoneOwed start past → NoneOwed start (Entered e ∷ past) }
+    ensures committed { (start : Image) (past : Timeline) (change : List Edit) (took : Bool) (e : Entry) → logs_put change ≡ [] →
+        ((number : ℕ) → is_open number past ≡ true → (e.operation ≡ number → ⊥) → InLog (after_one (image_of start past) (Committed Global change took)) number) →
+        NoneOwed start (Entered e ∷ Happened (Committed Global change took) ∷ past) }
+    ensures tried { (start : Image) (past : Timeline) (change : List Edit) (took : Bool) (op : Op) (e : Entry) → logs_put change ≡ op ∷ [] → e.operation ≡ op.number →
+        ((number : ℕ) → is_open number past ≡ true → (e.operation ≡ number → ⊥) → InLog (after_one (image_of start past) (Committed Global change took)) number) →
+        NoneOwed start (Entered e ∷ Happened (Committed Global change took) ∷ past) }
 {}
 
 /// An entry may come: alone, or with the commit that it stands for. With a reply it comes once all is written, and its text is then to be written.
@@ -56,7 +78,7 @@ pub fn run_recovers()
     ensures from { (since : ℕ) (start : Image) (mode : Mode) (past : Timeline) (connections : Connections) (rest : Text) → Owing since start mode past connections rest →
         Recovering since start mode past connections rest }
     ensures happened { (since : ℕ) (start : Image) (mode : Mode) (past : Timeline) (connections : Connections) (rest : Text) (h : Happening) → Recovering since start mode past connections rest →
-        bytes_of h ≡ [] → MayHappen start past h → Sound (after_one (image_of start past) h) → IsAtRest start (Happened h ∷ past) → Recovering since start mode (Happened h ∷ past) connections rest }
+        bytes_of h ≡ [] → MayHappen start past h → Sound (after_one (image_of start past) h) → IsAtRest start (Happened h ∷ past) → NoneOwed start (Happened h ∷ past) → Recovering since start mode (Happened h ∷ past) connections rest }
     ensures answered { (since : ℕ) (start : Image) (mode : Mode) (past : Timeline) (before after : Connections) (e : Entry) (reply : Reply) → Recovering since start mode past before [] →
         e.reply ≡ Some reply → MayEnter since start past e before after → Owing since start mode (Entered e ∷ past) after (text_of mode e) }
     ensures committed { (since : ℕ) (start : Image) (mode : Mode) (past : Timeline) (before after : Connections) (h : Happening) (e : Entry) (reply : Reply) → Recovering since start mode past before [] →
@@ -90,7 +112,7 @@ pub fn run_writes()
 /// From the run so far: at each moment the stores are sound, the history is legal, and only what happened is written.
 pub fn runs_at_each_moment()
     ensures { (mode : Mode) (trail : Trail) (t0 : ℕ) (going : AllGoing) (past : Timeline) (connections : Connections) → t0 ≤ end_of_trail trail → happened_of past ≡ drop t0 trail.happened →
-        Running t0 (image_at trail t0) mode past connections → KeepsPromises going (history_of past) → RunsByMoments mode trail t0 going (history_of past) }
+        Running t0 (image_at trail t0) mode past connections → KeepsPromises going (history_of past) → AreNamed going past [] → RunsByMoments mode trail t0 going (history_of past) }
 {}
 
 /// All is written at the end where nothing is left to write, or where the summary was written.
@@ -151,6 +173,13 @@ pub fn pending_names_the_least()
 pub fn promises_are_kept()
     ensures entered { (before after : AllGoing) (e : Entry) (history : List Entry) → GoesOn before after e → KeepsPromises before history → Promises after e [] e.reply → KeepsPromises after (history ++ e ∷ []) }
     ensures taken_up { (before after : AllGoing) (session : ℕ) (g : Going) (history : List Entry) → TakesUp before after session g → NamesOperations history → KeepsPromises before history → KeepsPromises after history }
+{}
+
+/// The operations that were tried stay named in the same way.
+pub fn operations_are_named()
+    ensures entered { (before after : AllGoing) (e : Entry) (past : Timeline) → GoesOn before after e → AreNamed before past [] → AreNamed after (Entered e ∷ past) [] }
+    ensures taken_up { (before after : AllGoing) (session : ℕ) (g : Going) (past : Timeline) → TakesUp before after session g → TriesNumbered past → AreNamed before past [] → AreNamed after past [] }
+    ensures numbered { (since : ℕ) (start : Image) (past : Timeline) (connections : Connections) → Unfolds since start past connections → AllSound start past → TriesNumbered past }
 {}
 
 // ---- over a world that tells its contents alone

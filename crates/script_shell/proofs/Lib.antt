@@ -10,4 +10,5 @@ pub mod ScanLaws
 pub mod ScriptLaws
 pub mod SourceLaws
 pub mod TrailLaws
+pub mod Untried
 pub mod WholeLaws

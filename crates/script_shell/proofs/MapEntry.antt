@@ -1,5 +1,5 @@
 -- An entry of `map` may come where its answer follows.
-use Rattle.std.proofs.Common.{◌≡◌, inl, inr, ℕ, ◌+◌, length, Option, Some, None, sym, ap, ◌∙◌}
+use Rattle.std.proofs.Common.{◌≡◌, refl, ◌∷◌, inl, inr, ℕ, ◌+◌, length, Option, Some, None, sym, ap, ◌∙◌}
 use Rattle.cell_world.specs.Texts.{Text}
 use Rattle.cell_world.specs.Images.{Image}
 use Rattle.cell_world.specs.Plain.{PlainState, Connections, holds_nothing, with_connections}
@@ -10,7 +10,9 @@ use Rattle.plain_model.specs.declared.replies.Refusal.TheVariants as refused
 use Rattle.plain_model.specs.declared.history.Entry.{Entry}
 use Rattle.plain_model.specs.Entries.{opened, settled}
 use Rattle.plain_model.specs.Steps.{plain_step, refused_or_done}
-use Rattle.plain_model.specs.Timelines.{Timeline, Past, image_of, facts_of, happened_of, past_of}
+use Rattle.script_shell.specs.Going.{TriedNone}
+use Rattle.script_shell.proofs.Untried.{none_owed}
+use Rattle.plain_model.specs.Timelines.{Entered, Timeline, Past, image_of, facts_of, happened_of, past_of}
 use Rattle.plain_model.specs.Follows.{Follows}
 use Rattle.plain_model.specs.OnTrail.{OnTrail}
 use Rattle.plain_model.specs.Legal.{MayEnter}
@@ -50,10 +52,12 @@ module _ (name : Text) (m moment : ℕ) where
     map_on_trail start past Memory h = tt
 
   pub map_may_enter : (since : ℕ) (start : Image) (past : Timeline) (connections : Connections) (answer : Answer) → moment ≡ since + length (happened_of past)
-      → MapFollows (with_connections (facts_of start past) connections) name (standing_with (image_of start past) connections) answer → MayEnter since start past (entry_of answer) connections connections
-  map_may_enter since start past connections answer at h = record {
+      → TriedNone past → MapFollows (with_connections (facts_of start past) connections) name (standing_with (image_of start past) connections) answer → MayEnter since start past (entry_of answer) connections connections
+  map_may_enter since start past connections answer at untried h = record {
     moment = at;
     follows = map_follows (with_connections (facts_of start past) connections) (standing_with (image_of start past) connections) (past_of start past) answer h;
     on_trail = map_on_trail (with_connections (facts_of start past) connections) (standing_with (image_of start past) connections) start past answer h;
     planned = tt;
+    own = inl refl;
+    none_owed = none_owed start (Entered (entry_of answer) ∷ past) untried;
   }

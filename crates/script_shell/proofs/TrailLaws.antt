@@ -57,6 +57,7 @@ run_begins trail sound = record {
   happened = sym (drop_all (end_of_trail trail) trail.happened (omega arith));
   entries = refl;
   owing = begins (end_of_trail trail) (image_at trail (end_of_trail trail)) (EachReply false) sound;
+  untried = tt;
 }
 
 module _ (t0 : ℕ) (start : Image) (trail : Trail) (history : List Entry) (rest : Text) (run : RunsOn t0 start trail history rest) where
@@ -94,6 +95,7 @@ module _ (t0 : ℕ) (start : Image) (trail : Trail) (history : List Entry) (rest
     happened = happened_more (Wrote rest);
     entries = run.entries;
     owing = owing-wrote_all t0 start (EachReply false) run.past run.connections rest run.owing;
+    untried = run.untried;
   }
 
   pub run_wrote_front : (n : ℕ) → RunsOn t0 start (extended trail (Wrote (take n rest))) history (drop n rest)
@@ -105,6 +107,7 @@ module _ (t0 : ℕ) (start : Image) (trail : Trail) (history : List Entry) (rest
     happened = happened_more (Wrote (take n rest));
     entries = run.entries;
     owing = owing-wrote_front t0 start (EachReply false) run.past run.connections n rest run.owing;
+    untried = run.untried;
   }
 
 module _ (t0 : ℕ) (start : Image) (trail : Trail) (history : List Entry) (run : RunsOn t0 start trail history []) (name : Text) (answer : Answer) (m moment : ℕ) where
@@ -122,7 +125,8 @@ module _ (t0 : ℕ) (start : Image) (trail : Trail) (history : List Entry) (run 
     entries = ap (λ es. es ++ entry ∷ []) run.entries;
     owing = owing-entered t0 start (EachReply false) run.past run.connections run.connections entry (reply_of answer) run.owing refl
         (map_may_enter name m moment t0 start run.past run.connections answer (at ∙ sym (moment_is t0 start trail history [] run))
-        (from_end (image_of start run.past) (image_is t0 start trail history [] run) (answers run.connections)));
+        run.untried (from_end (image_of start run.past) (image_is t0 start trail history [] run) (answers run.connections)));
+    untried = run.untried;
   }
     where
       -- what follows at the trail's end follows from the state after the latest entry
@@ -135,7 +139,7 @@ module _ (t0 : ℕ) (start : Image) (trail : Trail) (history : List Entry) (run 
 
   may_commit : (took : Bool) → MayHappen start run.past (map_commit name took)
   may_commit true = refl
-  may_commit false = omega arith
+  may_commit false = tt
 
   -- an answer with its commit
   pub run_committed : (took : Bool) → moment ≡ end_of_trail (extended trail (map_commit name took)) → CommitsAt name answer took (image_at trail (end_of_trail trail))
@@ -150,7 +154,8 @@ module _ (t0 : ℕ) (start : Image) (trail : Trail) (history : List Entry) (run 
     owing = owing-committed t0 start (EachReply false) run.past run.connections run.connections (map_commit name took) entry (reply_of answer) run.owing refl refl (may_commit took)
         (subst (λ (i : Image). Sound (after_one i (map_commit name took))) (sym (image_is t0 start trail history [] run)) commits.sound)
         (map_may_enter name m moment t0 start (Happened (map_commit name took) ∷ run.past) run.connections answer now
-        (from_end (image_of start run.past) (image_is t0 start trail history [] run) (commits.follows run.connections)));
+        (refl, run.untried) (from_end (image_of start run.past) (image_is t0 start trail history [] run) (commits.follows run.connections)));
+    untried = (refl, run.untried);
   }
     where
       now : moment ≡ t0 + length (happened_of (Happened (map_commit name took) ∷ run.past))

@@ -20,6 +20,7 @@ use Rattle.plain_model.specs.Headline.{EndsAnswered, has_stopped, SoundAtEachMom
 use Rattle.plain_model.proofs.RunsAtMoments.{runs_by_moments, all_lines_written}
 use Rattle.plain_model.proofs.AloneLaws.{alone_begins, alone_follows}
 use Rattle.script_shell.specs.Answering.{IsLater}
+use Rattle.script_shell.proofs.Untried.{none_named}
 use Rattle.script_shell.specs.Going.{RunsOn, KeepsRun, KeepsContents}
 use Rattle.script_shell.specs.Promises.{ends_early, HoldsOnTrail, HoldsByStates}
 use Rattle.script_shell.proofs.HistoryLaws.{nothing_going}
@@ -43,7 +44,7 @@ module _ (stopped : Bool) (script : List Asked) (ending : RunStatus) (t0 : ℕ) 
 
   parts : KeepsPromises nothing_going (history_of run.past) → EndsWritten rest ending (history_of run.past) → Parts stopped script trail t0 ending (history_of run.past)
   parts promises ends =
-      let moments : RunsByMoments (EachReply false) trail t0 nothing_going (history_of run.past) = runs_by_moments (EachReply false) trail t0 nothing_going run.past run.connections run.began run.happened owing.run promises in
+      let moments : RunsByMoments (EachReply false) trail t0 nothing_going (history_of run.past) = runs_by_moments (EachReply false) trail t0 nothing_going run.past run.connections run.began run.happened owing.run promises (none_named nothing_going run.past [] run.untried) in
       record {
         sound = record { sound = moments.sound };
         legal = record { going = nothing_going; left = λ session. record { none = λ goes. refl; next = tt }; legal = moments.legal };

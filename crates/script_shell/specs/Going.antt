@@ -2,14 +2,15 @@
 use Rattle.std.specs.Prelude.{◌≡◌, ℕ, Bool, true, false, Option, None, ◌≤◌, List, [], ◌∷◌, ◌++◌, drop, Some}
 use Rattle.cell_world.specs.Texts.{Text}
 use Rattle.cell_world.specs.Counts.{Rose}
-use Rattle.cell_world.specs.Images.{Image, Trail, image_at, end_of_trail}
+use Rattle.cell_world.specs.Images.{Image, Committed, Trail, image_at, end_of_trail}
 use Rattle.cell_world.specs.Plain.{Connections}
 use Rattle.cell_world.specs.Outside.{Outside, Told, TellsContents, TellsTrail}
 use Rattle.cell_world.specs.declared.outside.WorldError.TheVariants as error
 use Rattle.plain_model.specs.declared.finish.RunStatus.{RunStatus}
 use Rattle.plain_model.specs.declared.finish.RunStatus.TheVariants as status
 use Rattle.plain_model.specs.declared.history.Entry.{Entry}
-use Rattle.plain_model.specs.Timelines.{Timeline, Past, happened_of, history_of}
+use Rattle.plain_model.specs.OnTrail.{logs_put}
+use Rattle.plain_model.specs.Timelines.{Timeline, Happened, Entered, Past, happened_of, history_of}
 use Rattle.plain_model.specs.Written.{EachReply}
 use Rattle.plain_model.specs.Running.{Owing}
 use Rattle.plain_model.specs.RunningAlone.{RunningAlone, entries_of}
@@ -23,6 +24,13 @@ use Rattle.script_shell.specs.declared.answers.Outcome.TheVariants.{Answered, Un
 
 -- ---- over a world that tells its trail
 
+-- no log cell was tried
+abbrev pub TriedNone : Timeline → Type 0
+TriedNone [] = Unit {0}
+TriedNone (Happened (Committed place change took) ∷ past) = (logs_put change ≡ []) × TriedNone past
+TriedNone (Happened h ∷ past) = TriedNone past
+TriedNone (Entered e ∷ past) = TriedNone past
+
 -- The run so far: it began at moment t0 with these stores, its trail and history are these, and this is still to be written.
 pub record RunsOn (t0 : ℕ) (start : Image) (trail : Trail) (history : List Entry) (rest : Text) : Type 0 where
   pub began : t0 ≤ end_of_trail trail  -- at a moment of the trail
@@ -35,6 +43,7 @@ pub record RunsOn (t0 : ℕ) (start : Image) (trail : Trail) (history : List Ent
   pub entries : history_of past ≡ history  -- and what was entered in the history
   -- each step was allowed, and of the lines of the entries all but the rest is written
   pub owing : Owing t0 start (EachReply false) past connections rest
+  pub untried : TriedNone past  -- no command is a long one
 
 -- the trail that is told goes on from this one, and the run with it
 pub record HasGoneOn (t0 : ℕ) (start : Image) (before : Trail) (new : Told) (history : List Entry) (rest : Text) : Type 0 where

@@ -2,6 +2,8 @@ use Rattle.std.proofs.Common.{◌≡◌, true, false, refl, sym, ap, ◌∙◌, 
 use Rattle.std.proofs.lemmas.Cmp.{nat_cmp_total}
 use Rattle.std.specs.FinMap as fin
 use Rattle.cell_world.specs.Keys.{same}
+use Rattle.cell_world.specs.Images.{Image}
+use Rattle.cell_world.specs.declared.operations.Op.{Op}
 use Rattle.cell_world.specs.Jobs.{Replace}
 use Rattle.cell_world.specs.Orders.{pair_cmp, row_cmp}
 use Rattle.cell_world.specs.Plain.{PlainState, Connection, Connections}
@@ -19,7 +21,7 @@ use Rattle.plain_model.specs.Refusing.{if_there}
 use Rattle.plain_model.specs.Steps.{ended_under}
 use Rattle.plain_model.specs.Timelines.{Happened}
 use Rattle.plain_model.specs.Worked.{small_key}
-use Rattle.model_examples.specs.Values.{naming, fresh_connected, job_offline_op, tried, site_a, site_b, answered, one_connection, job_at, job_piece, keyed_pieces, copying_state}
+use Rattle.model_examples.specs.Values.{two_sites, naming, fresh_connected, job_offline_op, tried, site_a, site_b, answered, one_connection, job_at, job_piece, keyed_pieces, copying_state}
 use Rattle.model_examples.proofs.Lookups.{entries_of, differ}
 use Rattle.model_examples.proofs.JobStates.{m_stands, job_stands, the_move, is_batch_moved}
 use Rattle.model_examples.proofs.Faults.{is_live, ends_connections, ends_in_the_job}
@@ -54,7 +56,7 @@ no_offline p now =
 
 pub returns-clause-never_ended_at_the_move : goal.returns-clause-never_ended_at_the_move
 returns-clause-never_ended_at_the_move c f =
-    let g : FaultInJob [] (answered 1 (command.Step 1) reply.Fault) with_live with_ended copying = subst (FaultOnTrail [] (answered 1 (command.Step 1) reply.Fault) with_live with_ended (command.Step 1)) (job_stands 0 (Copying (At (small_key 5)))) f in
+    let g : FaultInJob two_sites [] (answered 1 (command.Step 1) reply.Fault) with_live with_ended copying = subst (FaultOnTrail two_sites [] (answered 1 (command.Step 1) reply.Fault) with_live with_ended (command.Step 1)) (job_stands 0 (Copying (At (small_key 5)))) f in
     ⊎_elim
     (λ e. differ is_live _ _ (sym e) refl refl)
     (⊎_elim not_moved (λ h. ⊎_elim (no_offline h.0) (λ tried. tried) h.1))
@@ -76,7 +78,7 @@ pub returns-clause-ended_at_the_offline : goal.returns-clause-ended_at_the_offli
 returns-clause-ended_at_the_offline c = rw (job_stands 0 Idle) (record { tried = λ p none. absurd none; cause = inr (inr (job_piece 0 10 site_a Online, inl offline_now, sym ends_in_the_job)) })
 
 -- only the job's mapping was to be taken offline
-only_tried : (p : Piece) → WasTried 1 (TakesOffline 1 p) (Happened (tried job_offline_op false) ∷ []) → job_piece 0 10 site_a Online ≡ p
+only_tried : (p : Piece) → WasTried two_sites 1 (λ (image : Image) (op : Op). TakesOffline 1 p op) (Happened (tried job_offline_op false) ∷ []) → job_piece 0 10 site_a Online ≡ p
 only_tried p was = ⊎_elim (λ some. ⊎_elim (λ takes. by takes.old) (λ none. absurd none) some) (λ none. absurd none) was
   where
     by : job_piece 0 10 site_a Online ∷ [] ≡ p ∷ [] → job_piece 0 10 site_a Online ≡ p
@@ -90,6 +92,6 @@ returns-clause-ended_where_it_was_tried c = rw (job_stands 0 Idle) (record {
 
 pub returns-clause-never_left_open_where_it_was_tried : goal.returns-clause-never_left_open_where_it_was_tried
 returns-clause-never_left_open_where_it_was_tried c f =
-    let g : FaultInJob (Happened (tried job_offline_op false) ∷ []) (naming (answered 1 (command.Step 1) reply.Fault) 1) (fresh_connected true) (fresh_connected true) fresh
-    = subst (FaultOnTrail (Happened (tried job_offline_op false) ∷ []) (naming (answered 1 (command.Step 1) reply.Fault) 1) (fresh_connected true) (fresh_connected true) (command.Step 1)) (job_stands 0 Idle) f in
+    let g : FaultInJob two_sites (Happened (tried job_offline_op false) ∷ []) (naming (answered 1 (command.Step 1) reply.Fault) 1) (fresh_connected true) (fresh_connected true) fresh
+    = subst (FaultOnTrail two_sites (Happened (tried job_offline_op false) ∷ []) (naming (answered 1 (command.Step 1) reply.Fault) 1) (fresh_connected true) (fresh_connected true) (command.Step 1)) (job_stands 0 Idle) f in
     differ (λ (connections : Connections). if_there (λ (x : Connection). x.live) (connections 1 1)) _ _ (g.tried (job_piece 0 10 site_a Online) (inl (inl (record { numbered = refl; old = refl; new = refl })))) refl refl
