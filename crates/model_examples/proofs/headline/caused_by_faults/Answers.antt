@@ -18,16 +18,22 @@ pub returns-clause-a_store : goal.returns-clause-a_store
 returns-clause-a_store c = let some : 0 < 1 = omega arith in (one_rise, inl some, refl)
 
 pub returns-clause-the_opening : goal.returns-clause-the_opening
-returns-clause-the_opening c = (one_rise, inr refl, refl)
+returns-clause-the_opening c = (one_rise, inr (refl, refl), refl)
 
 pub returns-clause-never_a_store_without_a_rise : goal.returns-clause-never_a_store_without_a_rise
 returns-clause-never_a_store_without_a_rise c h = no_rise h.0
 
 pub returns-clause-never_a_store_without_a_fault : goal.returns-clause-never_a_store_without_a_fault
-returns-clause-never_a_store_without_a_fault c h = ⊎_elim (λ some. let e : 0 < 0 = some in omega arith) (λ none. cc) h.1
+returns-clause-never_a_store_without_a_fault c h = ⊎_elim (λ some. let e : 0 < 0 = some in omega arith) (λ none. let e = none.1 in cc) h.1
 
 pub returns-clause-never_a_store_without_memory : goal.returns-clause-never_a_store_without_memory
 returns-clause-never_a_store_without_memory c h = let e : ◌≡◌ {A = ℕ} 1 0 = h.2 in omega arith
 
 pub returns-clause-memory : goal.returns-clause-memory
 returns-clause-memory c = tt
+
+pub returns-clause-a_store_unopened : goal.returns-clause-a_store_unopened
+returns-clause-a_store_unopened c = let some : 0 < 1 = omega arith in (one_rise, inl some, refl)
+
+pub returns-clause-never_the_opening_of_unopened : goal.returns-clause-never_the_opening_of_unopened
+returns-clause-never_the_opening_of_unopened c h = ⊎_elim (λ some. let e : 0 < 0 = some in omega arith) (λ none. true≢false (sym none.0)) h.1

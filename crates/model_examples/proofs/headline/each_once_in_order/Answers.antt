@@ -1,7 +1,8 @@
 use Rattle.std.proofs.Common.{◌≡◌, ◌<◌, arith, true, false, true≢false, refl, sym, [], ◌∷◌}
 use Rattle.plain_model.specs.declared.finish.RunStatus.TheVariants as status
+use Rattle.plain_model.specs.declared.replies.Reply.TheVariants as reply
 use Rattle.model_examples.specs.Values.{map_m, map_n, make_map, map_entry, second_entry}
-use Rattle.model_examples.specs.Runs.{asks, two_asked}
+use Rattle.model_examples.specs.Runs.{asks, two_asked, map_answered}
 use Rattle.model_examples.proofs.Served.{serves, in_order}
 use Rattle.model_examples.proofs.headline.each_once_in_order.Goals as goal
 
@@ -9,10 +10,10 @@ pub returns-clause-done : goal.returns-clause-done
 returns-clause-done c = serves (map_entry ∷ second_entry ∷ []) status.Done (refl, (refl, tt))
 
 pub returns-clause-stopped_at_a_write : goal.returns-clause-stopped_at_a_write
-returns-clause-stopped_at_a_write c = record { in_order = in_order true (map_entry ∷ []) (asks 1 (make_map map_n) ∷ []) (refl, tt); all = λ done. absurd (true≢false (sym done)); all_after_fault = λ failed. absurd (true≢false (sym failed)) }
+returns-clause-stopped_at_a_write c = record { in_order = in_order true (map_entry ∷ []) (asks 1 (make_map map_n) ∷ []) (refl, tt); all = λ done. absurd (true≢false (sym done)); all_after_fault = λ goes failed. absurd (true≢false (sym failed)) }
 
 pub returns-clause-opening_failed : goal.returns-clause-opening_failed
-returns-clause-opening_failed c = record { in_order = in_order false [] two_asked tt; all = λ done. absurd (true≢false (sym done)); all_after_fault = λ failed fault. absurd (let e : 0 < 0 = fault in omega arith) }
+returns-clause-opening_failed c = record { in_order = in_order false [] two_asked tt; all = λ done. absurd (true≢false (sym done)); all_after_fault = λ goes failed fault. absurd (let e : 0 < 0 = fault in omega arith) }
 
 pub returns-clause-never_done_before_the_end : goal.returns-clause-never_done_before_the_end
 returns-clause-never_done_before_the_end c o = let e : make_map map_m ∷ [] ≡ make_map map_m ∷ make_map map_n ∷ [] = o.all refl 1 in cc
@@ -21,4 +22,10 @@ pub returns-clause-never_refused_before_the_end : goal.returns-clause-never_refu
 returns-clause-never_refused_before_the_end c o = let e : make_map map_m ∷ [] ≡ make_map map_m ∷ make_map map_n ∷ [] = o.all refl 1 in cc
 
 pub returns-clause-never_a_fault_before_the_end : goal.returns-clause-never_a_fault_before_the_end
-returns-clause-never_a_fault_before_the_end c o = let one : 0 < 1 = omega arith in let e : make_map map_m ∷ [] ≡ make_map map_m ∷ make_map map_n ∷ [] = o.all_after_fault refl one 1 in cc
+returns-clause-never_a_fault_before_the_end c o = let one : 0 < 1 = omega arith in let e : make_map map_m ∷ [] ≡ make_map map_m ∷ make_map map_n ∷ [] = o.all_after_fault refl refl one 1 in cc
+
+pub returns-clause-ended_by_a_fault : goal.returns-clause-ended_by_a_fault
+returns-clause-ended_by_a_fault c = record { in_order = in_order true (map_answered reply.Fault ∷ []) (asks 1 (make_map map_n) ∷ []) (refl, tt); all = λ done. absurd (true≢false (sym done)); all_after_fault = λ goes. absurd (true≢false goes) }
+
+pub returns-clause-never_ended_by_a_refusal : goal.returns-clause-never_ended_by_a_refusal
+returns-clause-never_ended_by_a_refusal c o = let e : make_map map_m ∷ [] ≡ make_map map_m ∷ make_map map_n ∷ [] = o.all refl 1 in cc

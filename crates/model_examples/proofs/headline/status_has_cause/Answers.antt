@@ -1,8 +1,8 @@
-use Rattle.std.proofs.Common.{ℕ, ◌≡◌, arith, true≢false, refl, sym, [], ◌∷◌, ⊎_elim}
+use Rattle.std.proofs.Common.{ℕ, ◌≡◌, ◌<◌, ◌≤◌, inr, arith, true≢false, refl, sym, [], ◌∷◌, ⊎_elim}
 use Rattle.cell_world.specs.Outside.{TellsContents}
 use Rattle.plain_model.specs.declared.finish.RunStatus.TheVariants as status
 use Rattle.model_examples.specs.Values.{site_a, site_b, two_sites}
-use Rattle.model_examples.specs.Runs.{site_c}
+use Rattle.model_examples.specs.Runs.{site_c, list_refused}
 use Rattle.model_examples.proofs.UnknownLocations.{none_unknown, c_is_first}
 use Rattle.model_examples.proofs.RunStatuses.{list_caused}
 use Rattle.model_examples.proofs.headline.status_has_cause.Goals as goal
@@ -17,7 +17,19 @@ pub returns-clause-never_past_wrong_words : goal.returns-clause-never_past_wrong
 returns-clause-never_past_wrong_words c h = ⊎_elim (λ e. let f : status.Refused ≡ status.BadWords 2 = e in cc) (λ e. let f : status.Refused ≡ status.Memory = e in cc) (h.by_input.words 2 refl)
 
 pub returns-clause-never_past_an_unknown_location : goal.returns-clause-never_past_an_unknown_location
-returns-clause-never_past_an_unknown_location c h = ⊎_elim (λ e. let f : status.Refused ≡ status.UnknownLocation site_c = e in cc) (λ e. true≢false (sym e)) (h.by_opening site_c c_is_first)
+returns-clause-never_past_an_unknown_location c h = ⊎_elim (λ e. let f : status.Refused ≡ status.UnknownLocation site_c = e in cc) (λ e. true≢false (sym e)) (h.by_opening refl site_c c_is_first)
 
 pub returns-clause-never_after_memory : goal.returns-clause-never_after_memory
 returns-clause-never_after_memory c h = true≢false h.kept.ends_with_memory.0
+
+pub returns-clause-never_done_at_an_unknown_location : goal.returns-clause-never_done_at_an_unknown_location
+returns-clause-never_done_at_an_unknown_location c h = let e : list_refused ∷ [] ≡ [] = (h.unknown refl site_c c_is_first).0 in cc
+
+pub returns-clause-unopened : goal.returns-clause-unopened
+returns-clause-unopened c = let one : 0 < 1 = omega arith in let none : 0 ≤ 0 = omega arith in record {
+  cause = (one, refl, refl);
+  by_input = record { words = λ place wrong. absurd wrong; reading = λ long. absurd long; script = λ line reason wrong. absurd wrong };
+  by_opening = λ opens. absurd (true≢false (sym opens));
+  unknown = λ opens. absurd (true≢false (sym opens));
+  kept = record { few_faults = inr none; ends_with_memory = tt; nothing = λ nothing. absurd (true≢false (sym nothing)); unchanged = λ nothing. absurd (true≢false (sym nothing)) };
+}
