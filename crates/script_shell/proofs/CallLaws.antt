@@ -12,7 +12,7 @@ use Rattle.plain_model.specs.Headline.{Causes, StatusCause, is_done, did_nothing
 use Rattle.script_shell.specs.Scripts.{IsScript, IsFirstFaulty, IfFaulty, asked_of}
 use Rattle.script_shell.specs.declared.script.ScriptStop.{ScriptStop}
 use Rattle.script_shell.specs.declared.script.ScriptStop.TheVariants as stop
-use Rattle.script_shell.specs.Sources.{script_limit, IfTold, HasMore, TookAtMost}
+use Rattle.script_lang.specs.Sources.{script_limit, IfTold, HasMore, TookAtMost}
 use Rattle.script_shell.specs.Promises.{Runs, RunsScript, Completes, causes_of, no_causes, has_begun, is_of_commands, is_complete, comes_now, ends_early}
 use Rattle.script_shell.proofs.HistoryLaws.{in_order}
 use Rattle.script_shell.proofs.ScriptLaws.{script_is_whole, one_faulty}

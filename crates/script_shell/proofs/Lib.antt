@@ -8,7 +8,6 @@ pub mod MapCommand
 pub mod MapEntry
 pub mod ScanLaws
 pub mod ScriptLaws
-pub mod SourceLaws
 pub mod TrailLaws
 pub mod Untried
 pub mod WholeLaws

@@ -17,7 +17,7 @@ use Rattle.plain_model.specs.Summary.{is_fault}
 use Rattle.plain_model.specs.Written.{EachReply}
 use Rattle.plain_model.specs.Headline.{Causes, has_stopped, is_done, is_store_fault, did_nothing, SoundAtEachMoment, IsLegalHistory, OnlyWhatHappened, InOrder, AllAnswered, StatusCause, ComesByInput, KeepsToStatus, GoesOnFrom, IsLegalByStates}
 use Rattle.script_shell.specs.Scripts.{IsScript, IsFirstFaulty, asked_of}
-use Rattle.script_shell.specs.Sources.{script_limit, IfTold, TookAtMost}
+use Rattle.script_lang.specs.Sources.{script_limit, IfTold, TookAtMost}
 use Rattle.script_shell.specs.Answering.{IsLater}
 
 -- ---- statuses

@@ -3,9 +3,7 @@
 
 mod answers;
 mod commands;
-pub mod endings;
 mod engine;
-mod reading;
 mod run;
 mod script;
 pub mod shell;

@@ -3,7 +3,7 @@ ghost use Rattle.std.specs.Prelude.{◌≡◌, ◌≤◌, []};
 ghost use Rattle.script_shell.specs.Promises.{RunsScript, Completes};
 
 use crate::engine::Core;
-use crate::reading::{ReadStop, read_all};
+use script_lang::reading::{ReadStop, read_all};
 use crate::run::run_commands;
 use crate::script::{ScriptStop, read_script};
 use cell_world::outside::{Source, World};

@@ -7,7 +7,7 @@ mod tests;
 
 use plain_model::finish::RunStatus;
 use program::run;
-use script_shell::endings::{exit_number, standard_error_line};
+use script_lang::endings::{exit_number, standard_error_line};
 use std::env;
 use std::io::{ErrorKind, Write};
 use std::process::ExitCode;

@@ -5,7 +5,7 @@ use cell_world::outside::World;
 use plain_model::commands::Command;
 use plain_model::finish::{Reason, RunStatus};
 use plain_model::history::History;
-use script_shell::endings::standard_error_line;
+use script_lang::endings::standard_error_line;
 use script_shell::shell::run_script;
 use std::alloc::Global;
 use std::test::Fail;

@@ -1,7 +1,7 @@
 //! How a status is told to the one who ran the program: the exit status, and a line on standard error.
 ghost use Rattle.std.specs.Prelude.{◌≡◌, ◌++◌, codes, decimal, IfOk, OnOk, is_some, unwrap_or, []};
 ghost use Rattle.plain_model.specs.Lines.{reason_text, status_text, error_line};
-ghost use Rattle.script_shell.specs.Endings.{exit_status};
+ghost use Rattle.script_lang.specs.Endings.{exit_status};
 
 use cell_world::items::Memory;
 use plain_model::finish::{Reason, RunStatus};

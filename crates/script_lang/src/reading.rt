@@ -1,7 +1,7 @@
 //! The bytes of the script.
 ghost use Rattle.std.specs.Prelude.{◌≡◌, ◌≤◌, ◌<◌, [], length, option_map, IfOk, IsErrOf};
 ghost use Rattle.cell_world.specs.Counts.{Rose};
-ghost use Rattle.script_shell.specs.Sources.{script_limit, IfTold, HasMore, TookAtMost};
+ghost use Rattle.script_lang.specs.Sources.{script_limit, IfTold, HasMore, TookAtMost};
 
 use cell_world::outside::{Source, SourceError};
 use std::alloc::Global;

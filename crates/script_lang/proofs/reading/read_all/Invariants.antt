@@ -1,6 +1,6 @@
 use Rattle.std.proofs.Common.{◌≤◌, ◌-◌, ◌≡◌, vec_len}
-use Rattle.script_shell.specs.Sources.{script_limit, WereTaken}
-use Rattle.script_shell.proofs.reading.read_all.Given as goal
+use Rattle.script_lang.specs.Sources.{script_limit, WereTaken}
+use Rattle.script_lang.proofs.reading.read_all.Given as goal
 
 abbrev pub invariant-loop-bytes : goal.invariant-loop-bytes
 invariant-loop-bytes g l =

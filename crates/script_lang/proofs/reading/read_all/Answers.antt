@@ -1,8 +1,8 @@
 use Rattle.std.proofs.Common.{rules, arith, sym, ◌∙◌, ap, length}
 use Rattle.std.proofs.lemmas.Grind.{common_steps}
-use Rattle.script_shell.specs.Sources.{script_limit}
-use Rattle.script_shell.proofs.SourceLaws.{taken_none, taken_all, nothing_left, taken_more, taken_long, extended}
-use Rattle.script_shell.proofs.reading.read_all.Goals as goal
+use Rattle.script_lang.specs.Sources.{script_limit}
+use Rattle.script_lang.proofs.SourceLaws.{taken_none, taken_all, nothing_left, taken_more, taken_long, extended}
+use Rattle.script_lang.proofs.reading.read_all.Goals as goal
 
 pub loop-bytes-init : goal.loop-bytes-init
 loop-bytes-init g c = record {

@@ -4,7 +4,7 @@ use Rattle.std.specs.Prelude.{Result, Ok, Err, is_ok, is_err, option_map}
 use Rattle.std.proofs.lemmas.List.{append-nil, append_assoc, take-append-drop, length-append, length-take, length-take-le, take_at}
 use Rattle.cell_world.specs.Texts.{Text}
 use Rattle.cell_world.specs.Outside.{TakesFront, Takes}
-use Rattle.script_shell.specs.Sources.{IfTold, WereTaken, HasMore}
+use Rattle.script_lang.specs.Sources.{IfTold, WereTaken, HasMore}
 
 pub taken_none : (left : Option Text) (bytes : Text) → bytes ≡ [] → WereTaken left left bytes
 taken_none None bytes none = refl
