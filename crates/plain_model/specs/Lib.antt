@@ -11,8 +11,10 @@ pub mod Lines
 pub mod Near
 pub mod OnTrail
 pub mod Refusing
+pub mod RunSoFar
 pub mod Running
 pub mod RunningAlone
+pub mod ShortCommands
 pub mod Steps
 pub mod Summary
 pub mod Timelines

@@ -4,6 +4,8 @@ use Rattle.cell_world.specs.Texts.{Text}
 use Rattle.plain_model.specs.declared.history.Entry.{Entry}
 use Rattle.plain_model.specs.declared.replies.Reply.{Reply}
 use Rattle.plain_model.specs.declared.replies.Reply.TheVariants as reply
+use Rattle.plain_model.specs.declared.replies.Sort.{Sort}
+use Rattle.plain_model.specs.declared.replies.Sort.TheVariants as sort
 use Rattle.plain_model.specs.Refusing.{if_there}
 use Rattle.plain_model.specs.Lines.{numbered, whole_line}
 
@@ -30,6 +32,14 @@ is_good (reply.Pending operation) = false
 is_good reply.Fault = false
 is_good reply.Memory = false
 is_good other = true
+
+-- the sort of a reply
+abbrev pub sort_of : Reply → Sort
+sort_of (reply.Refused r) = sort.Refused
+sort_of (reply.Pending operation) = sort.Refused
+sort_of reply.Fault = sort.Fault
+sort_of reply.Memory = sort.Memory
+sort_of other = sort.Good
 
 -- ---- the summary
 

@@ -3,9 +3,11 @@
 
 pub mod commands;
 pub mod finish;
+pub mod headline_laws;
 pub mod history;
 pub mod laws;
 pub mod plans;
 pub mod refusal_laws;
 pub mod replies;
 pub mod run_laws;
+pub mod short_laws;

@@ -1,4 +1,7 @@
 //! What a session is told.
+ghost use Rattle.std.specs.Prelude.{◌≡◌};
+ghost use Rattle.plain_model.specs.Summary.{sort_of};
+
 use cell_world::cells::{KeyType, Status};
 use cell_world::items::{Items, RowBytes};
 use cell_world::locations::Location;
@@ -136,4 +139,31 @@ pub enum Reply {
     Fault,
     /// Want of memory. The command wasn't done, and the run ends.
     Memory,
+}
+
+/// The four sorts of replies, by which the status of a run goes.
+#[derive(Clone, Copy, Debug, PartialEq, Eq)]
+pub enum Sort {
+    /// `ok` or an answer.
+    Good,
+    /// A refusal or `pending`.
+    Refused,
+    /// `fault`.
+    Fault,
+    /// `memory`.
+    Memory,
+}
+
+impl Reply {
+    /// Its sort.
+    pub fn sort(&self) -> Sort
+        ensures { result ≡ sort_of self.now }
+    {
+        match self {
+            Reply::Refused(_) | Reply::Pending(_) => Sort::Refused,
+            Reply::Fault => Sort::Fault,
+            Reply::Memory => Sort::Memory,
+            _ => Sort::Good,
+        }
+    }
 }
