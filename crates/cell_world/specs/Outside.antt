@@ -107,6 +107,13 @@ abbrev pub Reopens : Outside → Outside → Site → Result (Unit {0}) WorldErr
 Reopens old new site (Ok done) = (cells : Store) × IsStore cells × Same (happens_at old site (λ place. Reopened place cells)) new
 Reopens old new site (Err error) = Same old new
 
+-- The same world later: its locations are the same, and no count fell.
+pub record IsLater (old new : Outside) : Type 0 where
+  pub locations : new.locations ≡ old.locations  -- it knows the same ones, in the same order
+  pub faults : NeverFall old.faults_at new.faults_at  -- of the calls at each site
+  pub sink : old.sink_faults ≤ new.sink_faults  -- of the writes
+  pub reads : old.global_reads ≤ new.global_reads  -- how often the global store was read
+
 -- The store count, over all sites of the world, rose by at least this number.
 abbrev pub StoreRoseBy : ℕ → Outside → Outside → Type 0
 StoreRoseBy by old new = StoreRose (length old.locations + 1) by old.faults_at new.faults_at

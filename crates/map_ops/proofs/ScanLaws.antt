@@ -22,7 +22,7 @@ use Rattle.cell_world.specs.declared.cells.Cell.TheVariants as cell
 use Rattle.cell_world.specs.declared.cells.CellKey.{CellKey}
 use Rattle.cell_world.specs.declared.cells.CellKey.TheVariants as at
 use Rattle.cell_world.proofs.OrderLaws.{exact_texts}
-use Rattle.script_shell.proofs.KeyCounts.{AreDistinct, IsNoneOf, AreKeys, distinct_keys, all_keys}
+use Rattle.map_ops.proofs.KeyCounts.{AreDistinct, IsNoneOf, AreKeys, distinct_keys, all_keys}
 
 abbrev least : CellKey
 least = at.Map (65 ∷ [])

@@ -1,6 +1,6 @@
 use Rattle.std.proofs.Common.{◌∙◌}
-use Rattle.script_shell.proofs.MapCommand.{spelled, scan_tells}
-use Rattle.script_shell.proofs.commands.is_full.Goals as goal
+use Rattle.map_ops.proofs.MapPlans.{spelled, scan_tells}
+use Rattle.map_ops.proofs.maps.is_full.Goals as goal
 
 pub returns-in-Ok-clause-found : goal.returns-in-Ok-clause-found
 returns-in-Ok-clause-found g c =

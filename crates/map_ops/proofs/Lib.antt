@@ -1,0 +1,3 @@
+pub mod KeyCounts
+pub mod MapPlans
+pub mod ScanLaws

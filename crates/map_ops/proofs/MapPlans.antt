@@ -1,0 +1,132 @@
+-- What was read decides the plan of `map`, and its commit is the plain step.
+use Rattle.std.proofs.Common.{◌≡◌, inl, inr, ℕ, Bool, true, false, length, List, [], ◌∷◌, ◌++◌, Option, Some, None, is_some, refl, sym, ap, ◌∙◌, subst, nat_le}
+use Rattle.std.specs.Prelude.{IsTrue, Ok, Err}
+use Rattle.std.specs.Option.{SomeIff}
+use Rattle.std.specs.FinMap as map
+use Rattle.cell_world.specs.Texts.{Text}
+use Rattle.cell_world.specs.Images.{Image, Global, global, image_at, end_of_trail, after_one}
+use Rattle.cell_world.specs.Plain.{PlainState, Connections, holds_nothing, with_connections}
+use Rattle.cell_world.specs.Sound.{Sound}
+use Rattle.cell_world.specs.Stores.{IsStore}
+use Rattle.cell_world.specs.Finding.{IsScan}
+use Rattle.cell_world.specs.Outside.{Told, TellsNothing, TellsContents, TellsTrail, IfContents, TellsCells}
+use Rattle.cell_world.specs.declared.cells.Cell.{Cell}
+use Rattle.cell_world.specs.declared.cells.Cell.TheVariants as cell
+use Rattle.cell_world.specs.declared.cells.CellKey.TheVariants as at
+use Rattle.cell_world.specs.declared.cells.MapKind.{MapKind}
+use Rattle.cell_world.specs.declared.cells.KeyType.{KeyType}
+use Rattle.cell_world.specs.declared.changes.Edit.{Edit}
+use Rattle.cell_world.specs.declared.changes.Edit.TheVariants.{Put}
+use Rattle.cell_world.specs.declared.operations.Reach.TheVariants as reach
+use Rattle.cell_world.proofs.MapKeepsSound.{meaning-put_map, map_keeps_sound}
+use Rattle.plain_model.specs.declared.commands.Command.{Command}
+use Rattle.plain_model.specs.declared.commands.Command.TheVariants as command
+use Rattle.plain_model.specs.declared.plans.Plan.TheVariants as plan
+use Rattle.plain_model.specs.declared.plans.PlanStop.TheVariants as stop
+use Rattle.plain_model.specs.declared.replies.Reply.TheVariants as reply
+use Rattle.plain_model.specs.declared.replies.Refusal.{Refusal}
+use Rattle.plain_model.specs.declared.replies.Refusal.TheVariants as refused
+use Rattle.plain_model.specs.Refusing.{refusal, first_refusal}
+use Rattle.plain_model.specs.ShortCommands.{standing_with, IsShortChange, IsRefusedWith}
+use Rattle.map_ops.specs.Planning.{Plans}
+use Rattle.map_ops.proofs.ScanLaws.{scan_counts}
+
+-- ---- what is told
+
+-- what follows from a fact of the contents is so of them
+pub contents_weaker : (told : Told) (P Q : Image → Type 0) → ((image : Image) → P image → Q image) → IfContents told P → IfContents told Q
+contents_weaker TellsNothing P Q weaker p = tt
+contents_weaker (TellsContents image) P Q weaker p = weaker image p
+contents_weaker (TellsTrail trail) P Q weaker p = weaker (image_at trail (end_of_trail trail)) p
+
+-- two facts of the contents are one
+pub contents_both : (told : Told) (P Q : Image → Type 0) → IfContents told P → IfContents told Q → IfContents told (λ image. P image × Q image)
+contents_both TellsNothing P Q p q = tt
+contents_both (TellsContents image) P Q p q = (p, q)
+contents_both (TellsTrail trail) P Q p q = (p, q)
+
+-- nothing but cells stands in the contents
+contents_store : (told : Told) → TellsCells told → IfContents told (λ image. IsStore (global image))
+contents_store TellsNothing cells = tt
+contents_store (TellsContents image) cells = cells Global
+contents_store (TellsTrail trail) cells = cells (end_of_trail trail) Global
+
+-- the name that was read is the one that is spelled
+pub spelled : (read : Option Text) (name text : Text) → SomeIff read (IsTrue true) text → read ≡ Some name → name ≡ text
+spelled read name text said is = let so : SomeIff (Some name) (IsTrue true) text = subst (λ r. SomeIff r (IsTrue true) text) is said in so.1
+
+-- the scan from the least name says whether 64 maps stand
+pub scan_tells : (told : Told) (found : List Cell) (least : Text) (count : ℕ) → TellsCells told → least ≡ 65 ∷ [] → count ≡ length found → IfContents told (λ image. IsScan (global image) (at.Map least) 64 found)
+    → IfContents told (λ image. nat_le 64 count ≡ nat_le 64 (map.len (global image).maps))
+scan_tells told found least count cells is counted scanned =
+    contents_weaker told (λ image. IsStore (global image) × IsScan (global image) (at.Map least) 64 found) (λ image. nat_le 64 count ≡ nat_le 64 (map.len (global image).maps))
+    (λ image both. ap (nat_le 64) counted ∙ scan_counts (global image) both.0 64 found (subst (λ name. IsScan (global image) (at.Map name) 64 found) is both.1))
+    (contents_both told (λ image. IsStore (global image)) (λ image. IsScan (global image) (at.Map least) 64 found) (contents_store told cells) scanned)
+
+-- ---- the plan of `map`
+
+module _ (name : Text) (kind : MapKind) (type : KeyType) where
+  abbrev c : Command
+  c = command.Map name kind type
+
+  -- the change that puts the map
+  abbrev pub map_change : List Edit
+  map_change = Put (cell.Map name kind type) ∷ []
+
+  -- whether a map of the name stands, and whether as many stand as may
+  abbrev pub Stands : Bool → Image → Type 0
+  Stands stands image = stands ≡ map.contains_key (global image).maps name
+
+  abbrev pub Fills : Bool → Image → Type 0
+  Fills full image = full ≡ nat_le 64 (map.len (global image).maps)
+
+  -- the tests of the command table
+  abbrev tests : Bool → Bool → Option Refusal
+  tests stands full = first_refusal ((stands, refused.MapExists) ∷ (full, refused.Full) ∷ [])
+
+  decides : (session : ℕ) (image : Image) (connections : Connections) (stands full : Bool) → Stands stands image → Fills full image → refusal (standing_with image connections) session c ≡ tests stands full
+  unfolding refusal
+  decides session image connections stands full s f = λ i. tests (sym s i) (sym f i)
+
+  pub plans_exists : (told : Told) (stands : Bool) → stands ≡ true → IfContents told (Stands stands) → IfContents told (λ image. Sound image → Plans c (Err (stop.Refused refused.MapExists)) image)
+  plans_exists told stands is s = contents_weaker told (Stands stands) (λ image. Sound image → Plans c (Err (stop.Refused refused.MapExists)) image)
+      (λ image so sound session connections. decides session image connections stands (nat_le 64 (map.len (global image).maps)) so refl ∙ ap (λ b. tests b (nat_le 64 (map.len (global image).maps))) is) s
+
+  both_told : (old mid : Told) (stands full : Bool) → mid ≡ old → IfContents old (Stands stands) → IfContents mid (Fills full) → IfContents old (λ image. Stands stands image × Fills full image)
+  both_told old mid stands full same s f = contents_both old (Stands stands) (Fills full) s (subst (λ t. IfContents t (Fills full)) same f)
+
+  pub plans_full : (old mid : Told) (stands full : Bool) → stands ≡ false → full ≡ true → mid ≡ old → IfContents old (Stands stands) → IfContents mid (Fills full) → IfContents old (λ image. Sound image → Plans c (Err (stop.Refused refused.Full)) image)
+  plans_full old mid stands full free is same s f =
+      contents_weaker old (λ image. Stands stands image × Fills full image) (λ image. Sound image → Plans c (Err (stop.Refused refused.Full)) image)
+      (λ image both sound session connections. decides session image connections stands full both.0 both.1 ∙ (λ i. tests (free i) (is i)))
+      (both_told old mid stands full same s f)
+
+  -- ---- the commit
+
+  module _ (image : Image) (sound : Sound image) (stands full : Bool) (free : stands ≡ false) (room : full ≡ false) (s : Stands stands image) (f : Fills full image) where
+    new : map.get (global image).maps name ≡ None
+    new = by (map.get (global image).maps name) refl
+      where
+        by : (o : Option (MapKind × KeyType)) → map.get (global image).maps name ≡ o → map.get (global image).maps name ≡ None
+        by None is = is
+        by (Some v) is = let wrong : false ≡ true = sym free ∙ s ∙ ap is_some is in absurd cc
+
+    changes : (session : ℕ) → IsShortChange session c map_change reply.Ok image
+    changes session = record {
+      accepts = λ connections. decides session image connections stands full s f ∙ (λ i. tests (free i) (room i));
+      becomes = λ connections. ap (λ (b : PlainState). (with_connections b connections, reply.Ok)) (sym (meaning-put_map image sound name kind type new));
+      sound = map_keeps_sound image sound name kind type new;
+      numbers = refl;
+    }
+
+  pub plans_map : (old mid : Told) (stands full : Bool) → stands ≡ false → full ≡ false → mid ≡ old → IfContents old (Stands stands) → IfContents mid (Fills full)
+      → IfContents old (λ image. Sound image → Plans c (Ok (plan.Short reach.Nothing map_change reply.Ok)) image)
+  plans_map old mid stands full free room same s f =
+      contents_weaker old (λ image. Stands stands image × Fills full image) (λ image. Sound image → Plans c (Ok (plan.Short reach.Nothing map_change reply.Ok)) image)
+      (λ image both sound. changes image sound stands full free room both.0 both.1)
+      (both_told old mid stands full same s f)
+
+  -- an empty change to which the put was added is this one
+  pub puts_the_map : (told : Told) (empty change : List Edit) → empty ≡ [] → change ≡ empty ++ map_change → IfContents told (λ image. Sound image → Plans c (Ok (plan.Short reach.Nothing map_change reply.Ok)) image)
+      → IfContents told (λ image. Sound image → Plans c (Ok (plan.Short reach.Nothing change reply.Ok)) image)
+  puts_the_map told empty change none added = subst (λ edits. IfContents told (λ image. Sound image → Plans c (Ok (plan.Short reach.Nothing edits reply.Ok)) image)) (sym (added ∙ ap (λ edits. edits ++ map_change) none))

@@ -1,0 +1,5 @@
+//! What is to be done for a command of the maps: refused by the command table, or a plan that is the plain step's change.
+#![tactic(auto)]
+
+mod maps;
+pub mod planning;
