@@ -18,6 +18,7 @@ use Rattle.cell_world.specs.declared.cells.KeyType.{KeyType}
 use Rattle.cell_world.specs.declared.changes.Edit.{Edit}
 use Rattle.cell_world.specs.declared.changes.Edit.TheVariants.{Put}
 use Rattle.cell_world.specs.declared.operations.Reach.TheVariants as reach
+use Rattle.cell_world.proofs.ContentsLaws.{contents_weaker, contents_both, contents_store}
 use Rattle.cell_world.proofs.MapKeepsSound.{meaning-put_map, map_keeps_sound}
 use Rattle.plain_model.specs.declared.commands.Command.{Command}
 use Rattle.plain_model.specs.declared.commands.Command.TheVariants as command
@@ -32,24 +33,6 @@ use Rattle.map_ops.specs.Planning.{Plans}
 use Rattle.map_ops.proofs.ScanLaws.{scan_counts}
 
 -- ---- what is told
-
--- what follows from a fact of the contents is so of them
-pub contents_weaker : (told : Told) (P Q : Image → Type 0) → ((image : Image) → P image → Q image) → IfContents told P → IfContents told Q
-contents_weaker TellsNothing P Q weaker p = tt
-contents_weaker (TellsContents image) P Q weaker p = weaker image p
-contents_weaker (TellsTrail trail) P Q weaker p = weaker (image_at trail (end_of_trail trail)) p
-
--- two facts of the contents are one
-pub contents_both : (told : Told) (P Q : Image → Type 0) → IfContents told P → IfContents told Q → IfContents told (λ image. P image × Q image)
-contents_both TellsNothing P Q p q = tt
-contents_both (TellsContents image) P Q p q = (p, q)
-contents_both (TellsTrail trail) P Q p q = (p, q)
-
--- nothing but cells stands in the contents
-contents_store : (told : Told) → TellsCells told → IfContents told (λ image. IsStore (global image))
-contents_store TellsNothing cells = tt
-contents_store (TellsContents image) cells = cells Global
-contents_store (TellsTrail trail) cells = cells (end_of_trail trail) Global
 
 -- the name that was read is the one that is spelled
 pub spelled : (read : Option Text) (name text : Text) → SomeIff read (IsTrue true) text → read ≡ Some name → name ≡ text
