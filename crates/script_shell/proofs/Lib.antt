@@ -1,13 +1,4 @@
 pub mod CallLaws
-pub mod Events
 pub mod HistoryLaws
-pub mod KeyCounts
-pub mod LineLaws
 pub mod LoopLaws
-pub mod MapCommand
-pub mod MapEntry
-pub mod ScanLaws
 pub mod ScriptLaws
-pub mod TrailLaws
-pub mod Untried
-pub mod WholeLaws

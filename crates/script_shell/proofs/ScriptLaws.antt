@@ -1,12 +1,14 @@
 -- The lines of a script, and its first faulty one.
-use Rattle.std.proofs.Common.{◌≡◌, ◌++◌, ◌+◌, ℕ, Bool, true, false, cond, List, [], ◌∷◌, length, take, drop, refl, sym, ap, ◌∙◌, subst, arith}
+use Rattle.std.proofs.Common.{◌≡◌, ◌++◌, ◌+◌, ◌≤◌, ℕ, Bool, true, false, cond, List, [], ◌∷◌, length, take, drop, refl, sym, ap, ◌∙◌, subst, arith}
 use Rattle.std.proofs.lemmas.Bool.{false≢true}
 use Rattle.std.proofs.lemmas.List.{take_at, drop_at, append_assoc, append_cancel_left, append-nil, length-append}
-use Rattle.std.specs.List.{prefix_len, list_all}
+use Rattle.std.specs.List.{AllByRecursion, prefix_len, list_all}
 use Rattle.std.specs.Prelude.{codes, IsTrue, nat_lt, ◌&&◌, ◌||◌, ◌==◌}
 use Rattle.cell_world.specs.Texts.{Text, is_name, is_name_byte, is_letter, is_digit}
 use Rattle.cell_world.specs.ByteOrder.{byte_eq, byte_eq_laws}
-use Rattle.script_shell.specs.Scripts.{map_line, script_lines, AreNames, IsScript, IsFirstFaulty, BeginsFaulty}
+use Rattle.plain_model.specs.declared.commands.Asked.{Asked}
+use Rattle.map_ops.specs.Planning.{is_planned}
+use Rattle.script_shell.specs.Scripts.{map_command, map_line, script_lines, AreNames, asked_of, IsScript, IsFirstFaulty, BeginsFaulty}
 
 -- ---- fronts
 
@@ -96,11 +98,62 @@ nothing_faulty : BeginsFaulty []
 nothing_faulty name rest good is = let no : length (map_line name ++ rest) ≡ 0 = sym (ap length is) in absurd (omega (arith, no, length-append (map_line name) rest))
 
 -- a script has no faulty line
-pub script_is_whole : (bytes : Text) (names : List Text) (line : ℕ) → IsScript bytes names → IsFirstFaulty bytes line → ⊥
-script_is_whole bytes names line script at =
-    at.there (sym (same_lines [] at.rest nothing_faulty at.faulty names at.before script.grammar at.grammar (append-nil (script_lines names) ∙ sym script.lines ∙ at.split)).1)
+pub script_is_whole : (bytes : Text) (script : List Asked) (line : ℕ) → IsScript bytes script → IsFirstFaulty bytes line → ⊥
+script_is_whole bytes script line is at =
+    at.there (sym (same_lines [] at.rest nothing_faulty at.faulty is.names at.before is.grammar at.grammar (append-nil (script_lines is.names) ∙ sym is.lines ∙ at.split)).1)
 
 -- and there is one first faulty line
 pub one_faulty : (bytes : Text) (one two : ℕ) → IsFirstFaulty bytes one → IsFirstFaulty bytes two → one ≡ two
 one_faulty bytes one two a b =
     a.number ∙ ap (λ n. n + 1) (same_lines a.rest b.rest a.faulty b.faulty a.before b.before a.grammar b.grammar (sym a.split ∙ b.split)).0 ∙ sym b.number
+
+-- ---- reading
+
+-- the lines read so far, and what is left
+pub record ReadSoFar (bytes : Text) (script : List Asked) (rest : Text) (number : ℕ) : Type 0 where
+  pub names : List Text
+  pub asked : script ≡ asked_of names
+  pub grammar : AreNames names
+  pub split : bytes ≡ script_lines names ++ rest
+  pub line : number ≡ length names + 1
+  pub bound : number + length rest ≤ length bytes + 1
+
+pub read_none : (bytes : Text) (script : List Asked) → script ≡ [] → ReadSoFar bytes script bytes 1
+read_none bytes script none = record { names = []; asked = none; grammar = tt; split = refl; line = refl; bound = omega arith }
+
+names_more : (names : List Text) (name : Text) → AreNames names → IsTrue (is_name name) → AreNames (names ++ name ∷ [])
+names_more [] name all good = (good, tt)
+names_more (x ∷ names) name all good = (all.0, names_more names name all.1 good)
+
+asked_more : (names : List Text) (name : Text) → asked_of (names ++ name ∷ []) ≡ asked_of names ++ record { session = 1; command = map_command name } ∷ []
+asked_more [] name = refl
+asked_more (x ∷ names) name = ap (λ others. record { session = 1; command = map_command x } ∷ others) (asked_more names name)
+
+lines_more : (names : List Text) (name rest : Text) → script_lines (names ++ name ∷ []) ++ rest ≡ script_lines names ++ (map_line name ++ rest)
+lines_more [] name rest = ap (λ line. line ++ rest) (append-nil (map_line name))
+lines_more (x ∷ names) name rest = append_assoc (map_line x) (script_lines (names ++ name ∷ [])) rest ∙ ap (λ others. map_line x ++ others) (lines_more names name rest) ∙ sym (append_assoc (map_line x) (script_lines names) (map_line name ++ rest))
+
+pub read_more : (bytes : Text) (script after : List Asked) (rest left name : Text) (number next : ℕ) → ReadSoFar bytes script rest number → IsTrue (is_name name) → rest ≡ map_line name ++ left
+    → after ≡ script ++ record { session = 1; command = map_command name } ∷ [] → next ≡ number + 1 → ReadSoFar bytes after left next
+read_more bytes script after rest left name number next so good line added one = record {
+  names = so.names ++ name ∷ [];
+  asked = added ∙ ap (λ others. others ++ record { session = 1; command = map_command name } ∷ []) so.asked ∙ sym (asked_more so.names name);
+  grammar = names_more so.names name so.grammar good;
+  split = so.split ∙ ap (λ r. script_lines so.names ++ r) line ∙ sym (lines_more so.names name left);
+  line = omega (arith, one, so.line, length-append so.names (name ∷ []));
+  bound = omega (arith, so.bound, one, ap length line, length-append (map_line name) left, length-append (codes "map ") (name ++ (codes " range int" ++ 10 ∷ [])));
+}
+
+pub read_whole : (bytes : Text) (script : List Asked) (rest : Text) (number : ℕ) → ReadSoFar bytes script rest number → rest ≡ [] → IsScript bytes script
+read_whole bytes script rest number so none = record { names = so.names; grammar = so.grammar; lines = so.split ∙ ap (λ r. script_lines so.names ++ r) none ∙ append-nil (script_lines so.names); asked = so.asked }
+
+pub read_faulty : (bytes : Text) (script : List Asked) (rest : Text) (number : ℕ) → ReadSoFar bytes script rest number → (rest ≡ [] → ⊥) → BeginsFaulty rest → IsFirstFaulty bytes number
+read_faulty bytes script rest number so there faulty = record { before = so.names; grammar = so.grammar; rest = rest; split = so.split; number = so.line; there = there; faulty = faulty }
+
+-- each of its commands is planned
+all_planned : (names : List Text) → AllByRecursion (λ (asked : Asked). is_planned asked.command ≡ true) (asked_of names)
+all_planned [] = tt
+all_planned (name ∷ names) = (refl, all_planned names)
+
+pub script_is_planned : (bytes : Text) (script : List Asked) → IsScript bytes script → AllByRecursion (λ (asked : Asked). is_planned asked.command ≡ true) script
+script_is_planned bytes script is = subst (AllByRecursion (λ (asked : Asked). is_planned asked.command ≡ true)) (sym is.asked) (all_planned is.names)

@@ -1,4 +1,3 @@
-pub mod Answering
-pub mod Going
 pub mod Promises
 pub mod Scripts
+pub mod Stops

@@ -28,14 +28,17 @@ script_lines names = flat_map map_line names
 abbrev pub AreNames : List Text → Type 0
 AreNames names = AllByRecursion (λ name. IsTrue (is_name name)) names
 
--- the bytes are the lines with these names
-pub record IsScript (bytes : Text) (names : List Text) : Type 0 where
-  pub grammar : AreNames names
-  pub lines : bytes ≡ script_lines names
-
 -- each line is a command of session 1
 abbrev pub asked_of : List Text → List Asked
 asked_of names = map (λ name. record { session = 1; command = map_command name }) names
+
+-- the bytes are the lines of these commands
+pub record IsScript (bytes : Text) (script : List Asked) : Type 0 where
+  -- the names in its lines
+  pub names : List Text
+  pub grammar : AreNames names
+  pub lines : bytes ≡ script_lines names
+  pub asked : script ≡ asked_of names  -- one line is one command
 
 -- ---- faulty lines
 

@@ -1,9 +1,6 @@
 //! The program `shardctl` over any world and any source: from the bytes of a script to commits and reply lines.
 #![tactic(auto)]
 
-mod answers;
-mod commands;
-mod engine;
 mod run;
 mod script;
 pub mod shell;

@@ -1,15 +1,17 @@
 //! The commands of a script, one after the other.
 ghost use Rattle.std.specs.Prelude.{◌≡◌, true, []};
+ghost use Rattle.std.specs.List.{AllByRecursion};
+ghost use Rattle.map_ops.specs.Planning.{is_planned};
 ghost use Rattle.plain_model.specs.Headline.{StatusCause};
-ghost use Rattle.script_shell.specs.Scripts.{asked_of};
-ghost use Rattle.script_shell.specs.Going.{stop_of, refuses};
-ghost use Rattle.script_shell.specs.Promises.{Runs, no_causes, is_of_commands};
+ghost use Rattle.plain_model.specs.declared.commands.Asked.{Asked};
+ghost use Rattle.script_shell.specs.Stops.{stop_of, refuses};
+ghost use Rattle.script_shell.specs.Promises.{Runs, for_now, no_causes, is_of_commands};
 
-use crate::answers::{Answer, Outcome};
-use crate::engine::Core;
-use cell_world::names::Name;
 use cell_world::outside::{World, WorldError};
+use manager_core::manager::{Core, Outcome};
+use plain_model::commands::Asked;
 use plain_model::finish::RunStatus;
+use plain_model::replies::Sort;
 use std::alloc::Global;
 
 /// The status with which the run stops after a command, if it does.
@@ -17,9 +19,9 @@ fn stopped(outcome: Outcome) -> Option<RunStatus>
     ensures { result ≡ stop_of outcome }
 {
     match outcome {
-        Outcome::Answered(Answer::Fault) => Some(RunStatus::StoreFault),
-        Outcome::Answered(Answer::Memory) => Some(RunStatus::Memory),
-        Outcome::Answered(Answer::Ok | Answer::MapExists | Answer::Full) => None,
+        Outcome::Ended(Sort::Fault) => Some(RunStatus::StoreFault),
+        Outcome::Ended(Sort::Memory) => Some(RunStatus::Memory),
+        Outcome::Ended(Sort::Good | Sort::Refused) => None,
         Outcome::Unasked => Some(RunStatus::Memory),
         Outcome::Unwritten(WorldError::Failed) => Some(RunStatus::WriteFault),
         Outcome::Unwritten(WorldError::Memory) => Some(RunStatus::Memory),
@@ -30,19 +32,20 @@ fn stopped(outcome: Outcome) -> Option<RunStatus>
 fn was_refused(outcome: Outcome) -> bool
     ensures { result ≡ refuses outcome }
 {
-    matches!(outcome, Outcome::Answered(Answer::MapExists | Answer::Full))
+    matches!(outcome, Outcome::Ended(Sort::Refused))
 }
 
 /// Asks the commands in order, and says how the run ended.
-pub fn run_commands<W: World>(alloc: Global, core: &mut Core<W>, script: Vec<Name>) -> RunStatus
-    requires { core.old.history ≡ [] }
-    ensures runs { Runs (asked_of script.items) (W.outside core.old.world) (W.outside core.new.world) core.new.history result }
-    ensures cause { StatusCause no_causes (W.outside core.old.world) (W.outside core.new.world) core.new.history result }
+pub fn run_commands<W: World>(alloc: Global, core: &mut Core<W>, script: Vec<Asked>) -> RunStatus
+    requires first { core.old.history ≡ [] }
+    requires planned { AllByRecursion (λ (asked : Asked). is_planned asked.command ≡ true) script.items }
+    ensures runs { Runs script.items (W.outside core.old.world) (W.outside core.new.world) core.new.history result }
+    ensures cause { StatusCause for_now no_causes (W.outside core.old.world) (W.outside core.new.world) core.new.history result }
     ensures of_commands { is_of_commands result ≡ true }
 {
     let mut refused = false;
-    for name in script {
-        let outcome = core.ask(alloc, name);
+    for asked in script {
+        let outcome = core.ask(alloc, asked);
         if let Some(status) = stopped(outcome) {
             return status;
         }

@@ -4,8 +4,13 @@ ghost use Rattle.std.specs.List.{prefix_len};
 ghost use Rattle.cell_world.specs.Texts.{is_name, is_name_byte};
 ghost use Rattle.script_shell.specs.Scripts.{IsScript, IfFaulty, BeginsFaulty, map_line};
 
+use cell_world::cells::{KeyType, MapKind};
 use cell_world::names::Name;
+use plain_model::commands::{Asked, Command};
 use std::alloc::Global;
+
+/// The one session of a script.
+const SESSION: u32 = 1;
 
 /// Why a script can't be run.
 #[derive(Clone, Copy, Debug, PartialEq, Eq)]
@@ -67,24 +72,28 @@ fn first_line(bytes: &[u8]) -> Option<Line<'_>>
     Some(Line { name, after })
 }
 
-/// The names in the lines of a script, or its first faulty line.
-pub fn read_script(alloc: Global, bytes: &[u8]) -> Result<Vec<Name>, ScriptStop>
+/// The commands in the lines of a script, or its first faulty line.
+pub fn read_script(alloc: Global, bytes: &[u8]) -> Result<Vec<Asked>, ScriptStop>
     requires { length bytes.now < 2 ^ 32 }
-    ensures script { IfOk result (λ names. IsScript bytes.now names.items) }
+    ensures script { IfOk result (λ script. IsScript bytes.now script.items) }
     ensures fault { IfErr result (λ stop. IfFaulty bytes.now stop) }
 {
-    let mut names = Vec::new(alloc);
+    let mut script = Vec::new(alloc);
     let mut rest = bytes;
     let mut number = 1;
     while !rest.is_empty() {
         let Some(line) = first_line(rest) else {
             return Err(ScriptStop::Faulty(number));
         };
-        if names.push(line.name).is_err() {
+        let pushed = script.push(Asked {
+            session: SESSION,
+            command: Command::Map(line.name, MapKind::Range, KeyType::Int),
+        });
+        if pushed.is_err() {
             return Err(ScriptStop::Memory);
         }
         number += 1;
         rest = line.after;
     }
-    Ok(names)
+    Ok(script)
 }

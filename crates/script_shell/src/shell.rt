@@ -2,11 +2,11 @@
 ghost use Rattle.std.specs.Prelude.{◌≡◌, ◌≤◌, []};
 ghost use Rattle.script_shell.specs.Promises.{RunsScript, Completes};
 
-use crate::engine::Core;
 use script_lang::reading::{ReadStop, read_all};
 use crate::run::run_commands;
 use crate::script::{ScriptStop, read_script};
 use cell_world::outside::{Source, World};
+use manager_core::manager::Core;
 use plain_model::finish::{Finish, Reason, RunStatus};
 use plain_model::history::History;
 use std::alloc::Global;

@@ -4,6 +4,7 @@ use Rattle.script_shell.specs.Scripts.{IsScript}
 use Rattle.plain_model.specs.declared.finish.Reason.TheVariants.{NotBuilt}
 use Rattle.plain_model.specs.declared.finish.RunStatus.TheVariants as status
 use Rattle.script_shell.proofs.CallLaws.{no_words, some_words, bad_words, read_fault, too_long, no_memory, bad_script, commands_run, with_status, faulty_at, completes}
+use Rattle.script_shell.proofs.ScriptLaws.{script_is_planned}
 use Rattle.script_shell.proofs.shell.run_script.Goals as goal
 
 pub returns-then-not-is_empty-clause-promises : goal.returns-then-not-is_empty-clause-promises
@@ -49,3 +50,6 @@ returns-clause-promises g c =
 
 pub returns-in-Err-Faulty-clause-completes : goal.returns-in-Err-Faulty-clause-completes
 returns-in-Err-Faulty-clause-completes g c = completes _ _ _ _ _ _ _ _ _ (returns-in-Err-Faulty-clause-promises g c)
+
+pub run_commands-status-requires-clause-planned : goal.run_commands-status-requires-clause-planned
+run_commands-status-requires-clause-planned g c = script_is_planned _ _ c.in-Ok-read_script.ensures.script
