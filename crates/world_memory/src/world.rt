@@ -87,7 +87,7 @@ impl MemoryWorld {
     ghost use Rattle.cell_world.specs.Stores.{empty_store};
     ghost use Rattle.world_memory.specs.Kept.{Holds, store_after};
     ghost use Rattle.cell_world.specs.Images.{empty_image, image_at, end_of_trail, written};
-    ghost use Rattle.cell_world.specs.Outside.{IfTrail, Same, read_at};
+    ghost use Rattle.cell_world.specs.Outside.{IfTrail, SameButFaults, read_at};
     ghost use Rattle.world_memory.specs.Told.{fresh};
     ghost use Rattle.world_memory.specs.Memory.{outside_of};
 
@@ -132,7 +132,7 @@ impl MemoryWorld {
 
     /// Counts a read of the site, and makes the table hold what the stores hold now.
     fn follow(&mut self, alloc: Global, site: Site) -> Result<(), WorldError>
-        ensures same { Same (read_at (outside_of self.old) site) (outside_of self.new) }
+        ensures same { SameButFaults (read_at (outside_of self.old) site) (outside_of self.new) }
         ensures holds { OnOk result (Holds self.new.contents.cells (λ n. store_after n empty_store self.old.happened.items)) }
         ensures cause { result ≡ Err WorldError.Failed → ⊥ }
     {
