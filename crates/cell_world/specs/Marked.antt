@@ -105,7 +105,7 @@ marked_sites op = locations_of (listed op.olds ++ listed op.news)
 abbrev pub NoMarksElsewhereOn : MarkTables → Op → Type 0
 NoMarksElsewhereOn t op = (location : Text) → IsAttached t.locations t.away location → is_among (marked_sites op) location ≡ false → HasNoMark op (t.locals_at location)
 
--- It holds from the log row on, and beside Committed and Settled it says what these don't: where both Settled and this hold, no mark of the operation stands at any attached site.
+-- It stands beside Committed and Settled, and says of all other sites what these don't: where Settled and this hold, no mark of the operation stands at any attached site.
 abbrev pub NoMarksElsewhere : Image → Op → Type 0
 NoMarksElsewhere image op = NoMarksElsewhereOn (mark_tables image) op
 

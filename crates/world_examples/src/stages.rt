@@ -1,10 +1,14 @@
 //! Examples of counted rows, of marks, and of how far an operation has come.
 ghost use Rattle.std.specs.Prelude.{◌≡◌, true, false, [], ◌∷◌, None};
+ghost use Rattle.cell_world.specs.Texts.{Text};
+ghost use Rattle.cell_world.specs.Images.{Image};
 ghost use Rattle.cell_world.specs.Meaning.{counts};
-ghost use Rattle.cell_world.specs.Marked.{Marked, MarkedOn, MarkedAt, NoMarksElsewhereOn, NoMarksElsewhere, IsCommitted, committed, jobs_after};
+ghost use Rattle.cell_world.specs.Sound.{IsAttachedIn, locals_at};
+ghost use Rattle.cell_world.specs.Marked.{Marked, MarkedOn, MarkedAt, HasNoMark, NoMarksElsewhereOn, NoMarksElsewhere, IsCommitted, committed, jobs_after};
 ghost use Rattle.cell_world.specs.declared.cells.Away.TheVariants.{Detached};
 ghost use Rattle.cell_world.specs.declared.cells.Mark.TheVariants.{Plain, Old, New};
 ghost use Rattle.cell_world.specs.declared.cells.Status.TheVariants.{Online, Offline};
+ghost use Rattle.cell_world.specs.declared.operations.Op.{Op};
 ghost use Rattle.cell_world.specs.declared.operations.StageName.TheVariants.{Logged, SourceDone, TargetDone, Committed, Settled};
 ghost use Rattle.cell_world.specs.declared.operations.Phase.TheVariants.{Idle, Copying};
 ghost use Rattle.cell_world.specs.declared.spans.High.TheVariants.{At};
@@ -100,6 +104,11 @@ pub fn marks_elsewhere()
 pub fn marks_at_the_other_site_of_a_job()
     ensures accepted { NoMarksElsewhereOn (marks_with [] 2 (local_row 0 10 0 Online (Old 1) ∷ []) []) offline_for_b }
     ensures old { NoMarksElsewhereOn (marks_with [] 2 [] (local_row 0 10 0 Online (Old 1) ∷ [])) offline_for_b → ⊥ }
+{}
+
+/// Where it is settled and no mark is elsewhere, no row at any attached site has its mark.
+pub fn no_mark_anywhere()
+    ensures { (image : Image) (op : Op) → Marked image op Settled → NoMarksElsewhere image op → (location : Text) → IsAttachedIn image location → HasNoMark op (locals_at image location) }
 {}
 
 // ---- the step to Committed
