@@ -111,7 +111,7 @@ NoMarksElsewhere image op = NoMarksElsewhereOn (mark_tables image) op
 
 -- ---- the step to Committed
 
--- the job of an operation is put
+-- the jobs after an operation: the job that it puts is put (no lawful operation drops one)
 abbrev pub jobs_after : Jobs → Extra → Jobs
 jobs_after jobs extra.None = jobs
 jobs_after jobs (extra.JobPut job) = map.insert jobs job.number job
