@@ -72,6 +72,22 @@ abbrev pub online_of : JobRow → Piece → High → Step
 online_of job piece end = Replace (piece ∷ []) (record piece { status = Online } ∷ []) (extra.JobPut (record job { phase = Idle; cursor = end }))
 
 -- ---- the table
+--
+-- The nine rows, of which the first that holds is taken. lo and hi are the ends of the job's range, e is the end of the batch.
+--
+--   phase       case                                                          step                                 given as
+--   Idle        a mapping ends at the cursor, and its low key is above lo     merge it with the mapping before it  Always (merge_of earlier piece)
+--   Idle        the cursor is hi                                              finish                               Always Finish
+--   Idle        the mapping that contains the cursor begins below it          split it at the cursor               Always (split_at piece cursor)
+--   Idle        e is below that mapping's high end                            split it at e                        UpTo: split_at piece e
+--   Idle        else                                                          offline of [cursor, e)               UpTo: offline_of job piece e
+--   Copying(e)  a row of [cursor, e) at the source isn't at the target        copy such rows to the target         not here: no operation
+--   Copying(e)  else                                                          move of [cursor, e) to the target    Always (move_of job piece e)
+--   Moved(e)    a row of [cursor, e) is at the source                         delete such rows at the source       not here: no operation
+--   Moved(e)    else                                                          online of [cursor, e)                Always (online_of job piece e)
+--
+-- Copies and deletions of rows are transactions at one shard, without a log row, and leave the phase. So the rows of the table here are the other seven:
+-- that an online comes only after the deletions is asked of a lawful step, and that a move comes only after the copies follows from the shape of a move.
 
 abbrev pub ends_at : High → Span → Bool
 ends_at end (Range low high) = same_end end high
@@ -120,8 +136,7 @@ abbrev pub idle_row : Owner → JobRow → Option TableRow → TableRow
 idle_row own job (Some merge) = merge
 idle_row own job None = if same_end job.cursor job.high then Always Finish else cursor_row own job
 
--- The table. Idle: the merge that is due; at the end of the range the finish; else a split at the cursor, or at the batch end, or the offline.
--- Copying leads to the move, and Moved to the online.
+-- The table, by the phase.
 abbrev pub phase_row : Owner → Mappings → JobRow → Phase → TableRow
 phase_row own mappings job Idle = idle_row own job (merge_due mappings job)
 phase_row own mappings job (Copying end) = or_stuck (option_map (λ piece. Always (move_of job piece end)) (cursor_piece own job))

@@ -68,9 +68,17 @@ abbrev pub rows_under : Rows → Text → Span → Rows
 rows_under rows name span = map.retain_keys rows (λ row. same name row.map && contains span row.key)
 
 -- low and high are what the whole becomes where it is cut at a key, and agree with it in all else
-abbrev pub Cuts : Piece → Piece → Piece → Type 0
-Cuts whole low high = (key : Text) × (from : Text) × (to : High) × (whole.span ≡ Range from to)
-    × (low ≡ record whole { span = Range from (At key) }) × (high ≡ record whole { span = Range key to })
+pub record Cuts (whole low high : Piece) : Type 0 where
+  -- the key at which it is cut
+  pub key : Text
+  -- the whole is a range
+  pub from : Text
+  pub to : High
+  pub range : whole.span ≡ Range from to
+  -- the low part goes up to the key, and differs from the whole in nothing else
+  pub lower : low ≡ record whole { span = Range from (At key) }
+  -- the high part goes from the key on, and differs in nothing else either
+  pub upper : high ≡ record whole { span = Range key to }
 
 -- the new mapping differs from the old one in status alone
 pub record TurnsStatus (old new : Piece) : Type 0 where

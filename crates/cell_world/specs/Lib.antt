@@ -19,4 +19,6 @@ pub mod Plain
 pub mod Sound
 pub mod Spelled
 pub mod Stores
+pub mod Sweep
 pub mod Texts
+pub mod UnderWay

@@ -1,4 +1,4 @@
--- Some element of a list.
+-- Some element of a list. `proofs/ListLaws.antt` takes these apart, and `AllByRecursion` too.
 use Rattle.std.specs.Prelude.{◌≡◌, ◌⊎◌, List, [], ◌∷◌}
 
 -- P holds of one of them

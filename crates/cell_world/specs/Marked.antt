@@ -1,18 +1,20 @@
 -- How far an operation has come, as the cells say it.
-use Rattle.std.specs.Prelude.{◌≡◌, ◌≢◌, ℕ, ◌<◌, Bool, true, List, None, IsTrue}
+use Rattle.std.specs.Prelude.{◌≡◌, ◌≢◌, ℕ, ◌<◌, Bool, true, false, List, ◌++◌, None, IsTrue}
 use Rattle.std.specs.List.{AllByRecursion}
 use Rattle.std.specs.FinMap as map
 use Rattle.cell_world.specs.Texts.{Text}
-use Rattle.cell_world.specs.Keys.{overlaps}
+use Rattle.cell_world.specs.Keys.{overlaps, is_among}
 use Rattle.cell_world.specs.Spelled.{listed}
-use Rattle.cell_world.specs.Stores.{Log, Locals, Mappings, AwaySites, exchanged}
-use Rattle.cell_world.specs.Images.{Image, Shard, global}
+use Rattle.cell_world.specs.Stores.{Store, Log, Locals, Jobs, AwaySites, exchanged}
+use Rattle.cell_world.specs.Images.{Image, Global, Shard, global, with_store}
 use Rattle.cell_world.specs.Meaning.{is_logged, next_operation}
-use Rattle.cell_world.specs.Operations.{sites_of}
+use Rattle.cell_world.specs.Operations.{locations_of, sites_of}
 use Rattle.cell_world.specs.Lawful.{IsAttached}
 use Rattle.cell_world.specs.Sound.{HasLog, HasLocal, Matches}
 use Rattle.cell_world.specs.declared.operations.Op.{Op}
 use Rattle.cell_world.specs.declared.operations.Piece.{Piece}
+use Rattle.cell_world.specs.declared.operations.Extra.{Extra}
+use Rattle.cell_world.specs.declared.operations.Extra.TheVariants as extra
 use Rattle.cell_world.specs.declared.operations.StageName.{StageName}
 use Rattle.cell_world.specs.declared.operations.StageName.TheVariants.{Logged, SourceDone, TargetDone, Committed, Settled}
 use Rattle.cell_world.specs.declared.cells.LocalRow.{LocalRow}
@@ -93,6 +95,40 @@ MarkedOn t op Settled = IsOutOfLog t op × AllByRecursion (λ location. IsAttach
 abbrev pub Marked : Image → Op → StageName → Type 0
 Marked image op stage = MarkedOn (mark_tables image) op stage
 
--- What the step to Committed does to the mappings: the news stand for the olds.
-abbrev pub IsReplaced : Mappings → Op → Mappings → Type 0
-IsReplaced before op after = after ≡ exchanged before (listed op.olds) (listed op.news)
+-- ---- no marks elsewhere
+
+-- where the operation has an old or a new mapping, so where it has marks; the other site of its job is none of these
+abbrev pub marked_sites : Op → List Text
+marked_sites op = locations_of (listed op.olds ++ listed op.news)
+
+-- at each attached site but those no row is Old or New of the operation
+abbrev pub NoMarksElsewhereOn : MarkTables → Op → Type 0
+NoMarksElsewhereOn t op = (location : Text) → IsAttached t.locations t.away location → is_among (marked_sites op) location ≡ false → HasNoMark op (t.locals_at location)
+
+-- It stands beside Committed and Settled, and says of all other sites what these don't: where Settled and this hold, no mark of the operation stands at any attached site.
+abbrev pub NoMarksElsewhere : Image → Op → Type 0
+NoMarksElsewhere image op = NoMarksElsewhereOn (mark_tables image) op
+
+-- ---- the step to Committed
+
+-- the jobs after an operation: the job that it puts is put (no lawful operation drops one)
+abbrev pub jobs_after : Jobs → Extra → Jobs
+jobs_after jobs extra.None = jobs
+jobs_after jobs (extra.JobPut job) = map.insert jobs job.number job
+jobs_after jobs (extra.JobDrop number) = map.remove jobs number
+
+-- The global store as the step to Committed leaves it: the news stand for the olds, the job is put, the log row is gone, and nothing else is changed.
+abbrev pub committed : Store → Op → Store
+committed before op = record before {
+  mappings = exchanged before.mappings (listed op.olds) (listed op.news);
+  jobs = jobs_after before.jobs op.extra;
+  log = map.remove before.log op.number;
+}
+
+-- one global store is the other after that step
+abbrev pub IsCommitted : Store → Op → Store → Type 0
+IsCommitted before op after = after ≡ committed before op
+
+-- the image after that step: the shards are as they were
+abbrev pub committed_image : Image → Op → Image
+committed_image image op = with_store image Global (committed (global image) op)

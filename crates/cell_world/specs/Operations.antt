@@ -14,14 +14,14 @@ use Rattle.cell_world.specs.declared.operations.Reach.TheVariants as reach
 
 -- ---- hulls
 
--- the least span over two; of the spans of a list map only one is ever joined
+-- The least span over two of one map. Two ranges give a range. In a list map a point is joined with itself alone: the old and the new mappings of a lawful operation there are at one key.
 abbrev pub joined : Span → Span → Span
 joined (Range low high) (Range from to) = Range (if below low from then low else from) (if end_below high to then to else high)
 joined (Range low high) (Point at) = Range low high
 joined (Point at) (Range low high) = Range low high
 joined (Point a) (Point b) = Point a
 
--- the least span over the pieces: for points it is the hull where they are one
+-- the least span over the pieces; for points it is that where all of them are one
 abbrev pub hull_of : List Piece → Option Span
 hull_of [] = None
 hull_of (p ∷ []) = Some p.span

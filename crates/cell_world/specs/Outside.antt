@@ -67,9 +67,9 @@ OfStore o site P = IfContents o.told (λ image. P (store_at o site image))
 
 -- ---- what calls do
 
--- The same but for counts of faults, none of which fell.
-pub record Same (old new : Outside) : Type 0 where
-  -- nothing else differs
+-- The same but for the counts of faults: they alone may differ, and none of them fell.
+pub record SameButFaults (old new : Outside) : Type 0 where
+  -- nothing but the counts of faults differs
   pub same : new ≡ record old { faults_at = new.faults_at; sink_faults = new.sink_faults }
   -- no site's count fell, nor the sink's
   pub faults : NeverFall old.faults_at new.faults_at
@@ -92,20 +92,20 @@ FailsWithRise result old new = IsErrOf result Failed → Rose old new
 
 -- Ok: the change is made. Failed: it is made or not made, and the trail says which. Memory: it isn't made.
 abbrev pub Commits : Outside → Outside → Site → List Edit → Result (Unit {0}) WorldError → Type 0
-Commits old new site change (Ok done) = Same (happens_at old site (λ place. Committed place change true)) new
-Commits old new site change (Err Failed) = (took : Bool) × Same (happens_at old site (λ place. Committed place change took)) new
-Commits old new site change (Err Memory) = Same old new
+Commits old new site change (Ok done) = SameButFaults (happens_at old site (λ place. Committed place change true)) new
+Commits old new site change (Err Failed) = (took : Bool) × SameButFaults (happens_at old site (λ place. Committed place change took)) new
+Commits old new site change (Err Memory) = SameButFaults old new
 
 -- Ok: all bytes are written. Failed: a front of them is. Memory: none.
 abbrev pub Writes : Outside → Outside → Text → Result (Unit {0}) WorldError → Type 0
-Writes old new bytes (Ok done) = Same (happens old (Wrote bytes)) new
-Writes old new bytes (Err Failed) = (n : ℕ) × Same (happens old (Wrote (take n bytes))) new
-Writes old new bytes (Err Memory) = Same old new
+Writes old new bytes (Ok done) = SameButFaults (happens old (Wrote bytes)) new
+Writes old new bytes (Err Failed) = (n : ℕ) × SameButFaults (happens old (Wrote (take n bytes))) new
+Writes old new bytes (Err Memory) = SameButFaults old new
 
 -- Ok: the site holds what the outside gives now, which is cells. Else nothing happened.
 abbrev pub Reopens : Outside → Outside → Site → Result (Unit {0}) WorldError → Type 0
-Reopens old new site (Ok done) = (cells : Store) × IsStore cells × Same (happens_at old site (λ place. Reopened place cells)) new
-Reopens old new site (Err error) = Same old new
+Reopens old new site (Ok done) = (cells : Store) × IsStore cells × SameButFaults (happens_at old site (λ place. Reopened place cells)) new
+Reopens old new site (Err error) = SameButFaults old new
 
 -- The same world later: its locations are the same, and no count fell.
 pub record IsLater (old new : Outside) : Type 0 where

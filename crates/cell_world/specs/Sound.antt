@@ -1,4 +1,6 @@
 -- Which images a run may leave: the sound ones. Of the cells of a detached site nothing is said but that each stands under its own key.
+-- Nor is it said that numbers are in their widths: a job's number may be 2^64 in a sound image. A law that needs numbers in their widths takes `IsImage` beside `Sound`; every world gives it.
+-- Nor which kinds of cell stand at which place: that is the program's own rule.
 use Rattle.std.specs.Prelude.{◌≡◌, ◌≢◌, ◌⊎◌, ℕ, ◌<◌, ◌≤◌, ◌^◌, Bool, true, not, List, Option, Some, None, IfSome, IsTrue, IsSome, nat_lt}
 use Rattle.std.specs.FinMap as map
 use Rattle.std.specs.FinSet as set
@@ -12,7 +14,7 @@ use Rattle.cell_world.specs.Images.{Image, Place, Shard, global}
 use Rattle.cell_world.specs.Plain.{Owner, owner_in}
 use Rattle.cell_world.specs.Meaning.{counts, counters_of, next_operation, next_job, owner_of}
 use Rattle.cell_world.specs.Jobs.{ends_at}
-use Rattle.cell_world.specs.Lawful.{ReadTables, read_tables, LawfulOn, IsAttached}
+use Rattle.cell_world.specs.Lawful.{ReadTables, read_tables, rows_at, LawfulOn, IsAttached}
 use Rattle.cell_world.specs.declared.operations.Piece.{Piece}
 use Rattle.cell_world.specs.declared.operations.Op.{Op}
 use Rattle.cell_world.specs.declared.operations.JobRow.{JobRow}
@@ -94,6 +96,15 @@ pub record LogCells (t : ReadTables) (log : Log) (next : ℕ) : Type 0 where
   pub numbered : (op : Op) → HasLog log op → op.number < next
   -- two log cells of one map have hulls that don't overlap
   pub hulls : (a b : Op) → HasLog log a → HasLog log b → a.map ≡ b.map → IsTrue (overlaps a.hull b.hull) → a ≡ b
+
+-- What is used of mappings where owners are spoken of; on a sound image it holds of those that stand.
+pub record AreMappings (maps : Maps) (mappings : Mappings) : Type 0 where
+  -- each is placed under its own key
+  pub placed : (k : Text × Text) → IfSome (map.get mappings k) (λ p. piece_key p ≡ k)
+  -- each is of its map's kind and key type
+  pub spans : (p : Piece) → HasPiece mappings p → IsSpanOf maps p.map p.span
+  -- those of one map are disjoint
+  pub disjoint : (p q : Piece) → HasPiece mappings p → HasPiece mappings q → p.map ≡ q.map → IsTrue (overlaps p.span q.span) → p ≡ q
 
 -- ---- (b) local cells of an attached site
 
@@ -266,7 +277,7 @@ pub record JobCells (maps : Maps) (shards : Shards) (mappings : Mappings) (next 
 abbrev pub JobTokens : Mappings → Jobs → Type 0
 JobTokens mappings jobs = (p : Piece) → HasPiece mappings p → IfSome p.token (λ token. token.0 < 2 ^ 64 → (job : JobRow) × HasJob jobs job × (job.number ≡ token.0) × (job.map ≡ p.map))
 
--- ---- sound
+-- ---- the parts, of an image
 
 abbrev pub IsAttachedIn : Image → Text → Type 0
 IsAttachedIn image location = IsAttached image.locations (global image).away location
@@ -274,25 +285,55 @@ IsAttachedIn image location = IsAttached image.locations (global image).away loc
 abbrev pub IsSuspectIn : Image → Text → Type 0
 IsSuspectIn image location = IsTrue (is_among image.locations location) × (map.get (global image).away location ≡ Some away.Suspect)
 
+-- the local rows of the shard at a location
+abbrev pub locals_at : Image → Text → Locals
+locals_at image location = (image.at (Shard location)).locals
+
+abbrev pub LogCellsIn : Image → Type 0
+LogCellsIn image = LogCells (read_tables image) (global image).log (next_operation image)
+
+abbrev pub LocalCellsIn : Image → Text → Type 0
+LocalCellsIn image location = LocalCells (global image).mappings (global image).log (next_operation image) location (locals_at image location)
+
+abbrev pub OnlineRowsIn : Image → Text → Type 0
+OnlineRowsIn image location = OnlineRows (global image).maps (owner_of image) (global image).log location (locals_at image location)
+
+abbrev pub RowCellsIn : Image → Text → Type 0
+RowCellsIn image location = RowCells (global image).maps (global image).tables (owner_of image) (global image).jobs location (rows_at image location)
+
+abbrev pub BatchRowsIn : Image → JobRow → Type 0
+BatchRowsIn image job = BatchRows job job.phase (rows_at image job.source) (rows_at image job.target)
+
+abbrev pub SuspectSiteIn : Image → Text → Type 0
+SuspectSiteIn image location = SuspectSite (global image).maps (global image).shards location (locals_at image location)
+
+abbrev pub JobCellsIn : Image → JobRow → Type 0
+JobCellsIn image job = JobCells (global image).maps (global image).shards (global image).mappings (next_job image) job
+
+abbrev pub IsBatchIn : Image → JobRow → Type 0
+IsBatchIn image job = IsBatch image.locations (global image).away (global image).mappings job job.phase
+
+-- ---- sound
+
 pub record Sound (image : Image) : Type 0 where
   -- each cell stands under its own key
   pub keyed : (place : Place) → IsKeyed (image.at place)
   -- (a) global cells, and of these the log cells
   pub globals : GlobalCells (global image)
-  pub logged : LogCells (read_tables image) (global image).log (next_operation image)
+  pub logged : LogCellsIn image
   -- (b) local cells of an attached site
-  pub locals : (location : Text) → IsAttachedIn image location → LocalCells (global image).mappings (global image).log (next_operation image) location (image.at (Shard location)).locals
+  pub locals : (location : Text) → IsAttachedIn image location → LocalCellsIn image location
   -- (c) online rows of an attached site
-  pub online : (location : Text) → IsAttachedIn image location → OnlineRows (global image).maps (owner_of image) (global image).log location (image.at (Shard location)).locals
+  pub online : (location : Text) → IsAttachedIn image location → OnlineRowsIn image location
   -- (d) row cells of an attached site
-  pub rows : (location : Text) → IsAttachedIn image location → RowCells (global image).maps (global image).tables (owner_of image) (global image).jobs location (image.at (Shard location)).rows
+  pub rows : (location : Text) → IsAttachedIn image location → RowCellsIn image location
   -- and the rows of each job's batch at its two sites
-  pub batches : (job : JobRow) → HasJob (global image).jobs job → BatchRows job job.phase (image.at (Shard job.source)).rows (image.at (Shard job.target)).rows
+  pub batches : (job : JobRow) → HasJob (global image).jobs job → BatchRowsIn image job
   -- (e) suspect sites
-  pub suspect : (location : Text) → IsSuspectIn image location → SuspectSite (global image).maps (global image).shards location (image.at (Shard location)).locals
+  pub suspect : (location : Text) → IsSuspectIn image location → SuspectSiteIn image location
   -- (f) each job: its range and cursor, and who owns its keys
-  pub jobs : (job : JobRow) → HasJob (global image).jobs job → JobCells (global image).maps (global image).shards (global image).mappings (next_job image) job
+  pub jobs : (job : JobRow) → HasJob (global image).jobs job → JobCellsIn image job
   -- its batch in progress
-  pub progress : (job : JobRow) → HasJob (global image).jobs job → IsBatch image.locations (global image).away (global image).mappings job job.phase
+  pub progress : (job : JobRow) → HasJob (global image).jobs job → IsBatchIn image job
   -- and each token that is a job's
   pub tokens : JobTokens (global image).mappings (global image).jobs

@@ -65,8 +65,9 @@ Rows = FinMap row_cmp Text
 
 -- ---- a store
 
+-- Each store has all ten kinds. That the program puts the first eight at the global store alone, and the last two at shards alone, is its own rule: no definition asks it of an image.
 pub record Store : Type 0 where
-  pub maps : Maps  -- the global store's, as are the next seven
+  pub maps : Maps  -- which maps stand
   pub shards : Shards  -- which locations are shards of a map
   pub tables : Tables  -- which tables a map has
   pub mappings : Mappings  -- who owns which keys

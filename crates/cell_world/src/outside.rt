@@ -3,7 +3,7 @@ ghost use Rattle.std.specs.Prelude.{◌≡◌, ◌≤◌, ◌<◌, ℕ, List, le
 ghost use Rattle.cell_world.specs.Counts.{Rose, last_count};
 ghost use Rattle.cell_world.specs.Finding.{IsFloor, IsScan, IsNextKey};
 ghost use Rattle.cell_world.specs.Images.{end_of_trail};
-ghost use Rattle.cell_world.specs.Outside.{Outside, IsWorld, IsSite, Same, OfStore, IfTrail, FailsWithRise, Commits, Writes, Reopens, Takes, site_number, read_at};
+ghost use Rattle.cell_world.specs.Outside.{Outside, IsWorld, IsSite, SameButFaults, OfStore, IfTrail, FailsWithRise, Commits, Writes, Reopens, Takes, site_number, read_at};
 ghost use Rattle.cell_world.specs.Stores.{cell_at};
 
 use crate::cells::{Cell, CellKey, Site};
@@ -41,7 +41,7 @@ pub trait World {
     fn read(&mut self, alloc: Global, site: Site, key: &CellKey) -> Result<Option<Cell>, WorldError>
         requires { IsSite (outside self.old) site }
         ensures found { IfOk result (λ found. OfStore (outside self.old) site (λ s. found ≡ cell_at s key.now)) }
-        ensures same { Same (read_at (outside self.old) site) (outside self.new) }
+        ensures same { SameButFaults (read_at (outside self.old) site) (outside self.new) }
         ensures cause { FailsWithRise result ((outside self.old).faults_at site.0) ((outside self.new).faults_at site.0) };
 
     /// The greatest cell of the same kind and map that is at or below the key.
@@ -53,7 +53,7 @@ pub trait World {
     ) -> Result<Option<Cell>, WorldError>
         requires { IsSite (outside self.old) site }
         ensures found { IfOk result (λ found. OfStore (outside self.old) site (λ s. IsFloor s key.now found)) }
-        ensures same { Same (read_at (outside self.old) site) (outside self.new) }
+        ensures same { SameButFaults (read_at (outside self.old) site) (outside self.new) }
         ensures cause { FailsWithRise result ((outside self.old).faults_at site.0) ((outside self.new).faults_at site.0) };
 
     /// The first cells at or above the key of the same kind, of whatever map, in cell order: `limit` of them, or
@@ -67,7 +67,7 @@ pub trait World {
     ) -> Result<Vec<Cell>, WorldError>
         requires { IsSite (outside self.old) site }
         ensures found { IfOk result (λ found. OfStore (outside self.old) site (λ s. IsScan s from.now limit found.items)) }
-        ensures same { Same (read_at (outside self.old) site) (outside self.new) }
+        ensures same { SameButFaults (read_at (outside self.old) site) (outside self.new) }
         ensures cause { FailsWithRise result ((outside self.old).faults_at site.0) ((outside self.new).faults_at site.0) };
 
     /// The least key with a row cell of the map that is at or above this one; with `past`, above it.
@@ -81,7 +81,7 @@ pub trait World {
     ) -> Result<Option<NormKey>, WorldError>
         requires { IsSite (outside self.old) site }
         ensures found { IfOk result (λ found. OfStore (outside self.old) site (λ s. IsNextKey s.rows map.now from.now past found)) }
-        ensures same { Same (read_at (outside self.old) site) (outside self.new) }
+        ensures same { SameButFaults (read_at (outside self.old) site) (outside self.new) }
         ensures cause { FailsWithRise result ((outside self.old).faults_at site.0) ((outside self.new).faults_at site.0) };
 
     /// Makes a change in one transaction. `Failed`: it is made or not made, and the trail says which.

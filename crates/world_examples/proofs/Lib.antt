@@ -7,4 +7,5 @@ pub mod Moving
 pub mod Refusing
 pub mod ShortTables
 pub mod Standing
+pub mod Sweeping
 pub mod Tables

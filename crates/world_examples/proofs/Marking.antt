@@ -6,11 +6,12 @@ use Rattle.std.specs.Ordering.{nat_cmp}
 use Rattle.std.specs.FinMap as fin
 use Rattle.std.specs.FinMap.{is_sorted}
 use Rattle.cell_world.specs.Orders.{local_cmp}
-use Rattle.cell_world.specs.Keys.{overlaps}
+use Rattle.cell_world.specs.Keys.{overlaps, is_among}
 use Rattle.cell_world.specs.Meaning.{is_logged}
 use Rattle.cell_world.specs.Stores.{local_key}
 use Rattle.cell_world.specs.Sound.{HasLocal, HasLog, Matches}
-use Rattle.cell_world.specs.Marked.{IsNew, HasMarked, HasNoMark, MarkedAt, is_mark_of}
+use Rattle.cell_world.specs.Lawful.{IsAttached}
+use Rattle.cell_world.specs.Marked.{IsNew, HasMarked, HasNoMark, MarkedAt, MarkTables, NoMarksElsewhereOn, marked_sites, is_mark_of}
 use Rattle.cell_world.specs.declared.cells.LocalRow.{LocalRow}
 use Rattle.cell_world.specs.declared.cells.Mark.{Mark}
 use Rattle.cell_world.specs.declared.cells.Mark.TheVariants.{Plain, Old, New}
@@ -22,7 +23,7 @@ use Rattle.world_examples.proofs.Accepting.{b_not_a}
 use Rattle.world_examples.specs.Examples.{map_m, site_a, site_b, range, local_row, log_of, locals_of}
 use Rattle.world_examples.specs.Sounds.{move_logged}
 use Rattle.world_examples.proofs.Tables.{get_of}
-use Rattle.world_examples.proofs.Standing.{standing}
+use Rattle.world_examples.proofs.Standing.{standing, each_site}
 use Rattle.world_examples.proofs.ImageParts.{numbered_ops, keyed_locals}
 use Rattle.world_examples.proofs.ShortTables.{local_in, op_in}
 
@@ -39,6 +40,11 @@ abbrev pub is_new : Mark → Bool
 is_new New = true
 is_new (Old p) = false
 is_new Plain = false
+
+abbrev pub is_plain : Mark → Bool
+is_plain Plain = true
+is_plain (Old p) = false
+is_plain New = false
 
 module _ (rows : List LocalRow) (sorted : T (is_sorted local_cmp (keyed_locals rows))) where
   -- no row of the mapping has the mark
@@ -85,3 +91,7 @@ in_log = op_in (move_logged ∷ []) tt move_logged refl
 -- the rows have no mark of it
 pub no_mark : (rows : List LocalRow) → T (is_sorted local_cmp (keyed_locals rows)) → AllByRecursion (λ e. (e.1.mark ≢ Old 1) × (IsNew 1 e.1 → ⊥)) (keyed_locals rows) → HasNoMark move_logged (locals_of rows)
 no_mark rows sorted all = each_row rows sorted (λ row. (row.mark ≢ Old 1) × (IsNew 1 row → ⊥)) all
+
+-- no row has a mark of an operation but at its sites, by what is so at each of the world's sites
+pub no_mark_but : (t : MarkTables) (op : Op) → AllByRecursion (λ l. IsAttached t.locations t.away l → is_among (marked_sites op) l ≡ false → HasNoMark op (t.locals_at l)) t.locations → NoMarksElsewhereOn t op
+no_mark_but t op all l here off = each_site (λ l. IsAttached t.locations t.away l → is_among (marked_sites op) l ≡ false → HasNoMark op (t.locals_at l)) t.locations all l here.known here off

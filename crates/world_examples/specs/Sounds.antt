@@ -169,3 +169,11 @@ marks_with ops next a b = record {
   next = next;
   locals_at = λ location. if same location site_a then locals_of a else if same location site_b then locals_of b else locals_of [];
 }
+
+-- the global store before that operation commits, with these log rows: beside [0, 5) stands [5, 9)
+abbrev pub global_moves : List Op → Store
+global_moves ops = global_with (free_piece 0 5 site_a Offline ∷ free_piece 5 9 site_a Online ∷ []) ops [] (Some (record { operation = 3; job = 1 }))
+
+-- and after it
+abbrev pub global_moved : List Op → Store
+global_moved ops = global_with (free_piece 0 5 site_b Offline ∷ free_piece 5 9 site_a Online ∷ []) ops [] (Some (record { operation = 3; job = 1 }))

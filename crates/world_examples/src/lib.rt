@@ -6,3 +6,4 @@ pub mod lawful;
 pub mod sound;
 pub mod spans;
 pub mod stages;
+pub mod steps;

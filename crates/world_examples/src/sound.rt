@@ -1,7 +1,8 @@
 //! Examples of sound images, and for each clause of sound some that it refuses.
 ghost use Rattle.std.specs.Prelude.{◌+◌, ◌^◌, [], ◌∷◌, None, Some};
 ghost use Rattle.std.specs.FinMap.{from_sorted};
-ghost use Rattle.cell_world.specs.Sound.{Sound, GlobalCells, JobCells};
+ghost use Rattle.cell_world.specs.Images.{Image, global};
+ghost use Rattle.cell_world.specs.Sound.{Sound, GlobalCells, AreMappings, JobCells};
 ghost use Rattle.cell_world.specs.Stores.{IsKeyed, empty_store};
 ghost use Rattle.cell_world.specs.declared.cells.Away.TheVariants.{Detached, Suspect};
 ghost use Rattle.cell_world.specs.declared.cells.KeyType.TheVariants.{Int};
@@ -71,6 +72,15 @@ pub fn refused_log_cells()
     ensures unlawful { LogCellsWith [] (op_on 1 (range 0 5) no_pieces (one_piece (free_piece 0 5 site_a Offline)) extra.None ∷ []) 2 → ⊥ }
     ensures numbered { LogCellsWith [] (add_at_a ∷ []) 1 → ⊥ }
     ensures hulls { LogCellsWith [] (add_at_a ∷ record add_at_a { number = 2 } ∷ []) 3 → ⊥ }
+{}
+
+/// What is used of mappings: each is under its own key and of its map's kind and key type, and those of a map are disjoint. It holds of those of a sound image.
+pub fn mappings_in_order()
+    ensures accepted { AreMappings maps_m (mappings_of (free_piece 0 5 site_a Online ∷ free_piece 5 10 site_b Offline ∷ [])) }
+    ensures of_sound_images { (image : Image) → Sound image → AreMappings (global image).maps (global image).mappings }
+    ensures misplaced { AreMappings maps_m (from_sorted (((map_m, int_key 1), free_piece 0 5 site_a Online) ∷ [])) → ⊥ }
+    ensures empty_span { AreMappings maps_m (mappings_of (free_piece 5 5 site_a Online ∷ [])) → ⊥ }
+    ensures disjoint { AreMappings maps_m (mappings_of (free_piece 0 6 site_a Online ∷ free_piece 5 10 site_b Online ∷ [])) → ⊥ }
 {}
 
 // ---- refused: local cells of an attached site

@@ -1,13 +1,19 @@
 //! Examples of counted rows, of marks, and of how far an operation has come.
-ghost use Rattle.std.specs.Prelude.{◌≡◌, true, false, [], ◌∷◌};
+ghost use Rattle.std.specs.Prelude.{◌≡◌, true, false, [], ◌∷◌, None};
+ghost use Rattle.cell_world.specs.Texts.{Text};
+ghost use Rattle.cell_world.specs.Images.{Image};
 ghost use Rattle.cell_world.specs.Meaning.{counts};
-ghost use Rattle.cell_world.specs.Marked.{Marked, MarkedOn, MarkedAt, IsReplaced};
+ghost use Rattle.cell_world.specs.Sound.{IsAttachedIn, locals_at};
+ghost use Rattle.cell_world.specs.Marked.{Marked, MarkedOn, MarkedAt, HasNoMark, NoMarksElsewhereOn, NoMarksElsewhere, IsCommitted, committed, jobs_after};
 ghost use Rattle.cell_world.specs.declared.cells.Away.TheVariants.{Detached};
 ghost use Rattle.cell_world.specs.declared.cells.Mark.TheVariants.{Plain, Old, New};
 ghost use Rattle.cell_world.specs.declared.cells.Status.TheVariants.{Online, Offline};
+ghost use Rattle.cell_world.specs.declared.operations.Op.{Op};
 ghost use Rattle.cell_world.specs.declared.operations.StageName.TheVariants.{Logged, SourceDone, TargetDone, Committed, Settled};
-ghost use Rattle.world_examples.specs.Examples.{site_a, site_b, free_piece, local_row, add_at_a, mappings_of, log_of, locals_of, away_of};
-ghost use Rattle.world_examples.specs.Sounds.{image_logged, offline_logged, add_logged, move_logged, marks_with};
+ghost use Rattle.cell_world.specs.declared.operations.Phase.TheVariants.{Idle, Copying};
+ghost use Rattle.cell_world.specs.declared.spans.High.TheVariants.{At};
+ghost use Rattle.world_examples.specs.Examples.{int_key, site_a, site_b, free_piece, local_row, job_at, add_at_a, offline_for_b, mappings_of, log_of, jobs_of, locals_of, away_of};
+ghost use Rattle.world_examples.specs.Sounds.{image_logged, offline_logged, add_logged, move_logged, marks_with, global_with, global_moves, global_moved};
 
 // ---- counted rows
 
@@ -82,9 +88,44 @@ pub fn marks_at_a_site()
     ensures new_mark_in_the_hull { MarkedAt (log_of (move_logged ∷ [])) move_logged site_a (locals_of (local_row 0 5 0 Offline (Old 1) ∷ local_row 3 9 7 Online New ∷ [])) → ⊥ }
 {}
 
-/// As it commits the news stand for the olds, and no other mapping changes.
-pub fn mappings_as_it_commits()
-    ensures accepted { IsReplaced (mappings_of (free_piece 0 5 site_a Offline ∷ free_piece 5 9 site_a Online ∷ [])) move_logged (mappings_of (free_piece 0 5 site_b Offline ∷ free_piece 5 9 site_a Online ∷ [])) }
-    ensures not_replaced { IsReplaced (mappings_of (free_piece 0 5 site_a Offline ∷ [])) move_logged (mappings_of (free_piece 0 5 site_a Offline ∷ [])) → ⊥ }
-    ensures one_more_changed { IsReplaced (mappings_of (free_piece 0 5 site_a Offline ∷ free_piece 5 9 site_a Online ∷ [])) move_logged (mappings_of (free_piece 0 5 site_b Offline ∷ [])) → ⊥ }
+// ---- no marks elsewhere: [0, 5) goes offline at `s/a`, so `s/b` is none of the operation's sites
+
+/// At another site no row has its mark, or the site is away. At its own site its marks may stand.
+pub fn marks_elsewhere()
+    ensures accepted { NoMarksElsewhereOn (marks_with [] 2 (local_row 0 5 0 Online (Old 1) ∷ local_row 0 5 1 Offline New ∷ []) (local_row 0 5 0 Online (Old 7) ∷ local_row 5 9 1 Online Plain ∷ [])) offline_logged }
+    ensures site_away { NoMarksElsewhereOn (record (marks_with [] 2 [] (local_row 0 5 0 Online (Old 1) ∷ [])) { away = away_of ((site_b, Detached) ∷ []) }) offline_logged }
+    ensures whole_image { NoMarksElsewhere image_logged offline_logged }
+    ensures old { NoMarksElsewhereOn (marks_with [] 2 [] (local_row 0 5 0 Online (Old 1) ∷ [])) offline_logged → ⊥ }
+    ensures new { NoMarksElsewhereOn (marks_with [] 2 [] (local_row 0 5 1 Offline New ∷ [])) offline_logged → ⊥ }
+    ensures beside_the_hull { NoMarksElsewhereOn (marks_with [] 2 [] (local_row 7 9 1 Online New ∷ [])) offline_logged → ⊥ }
+{}
+
+/// The other site of a job has no mapping of the job's step, so no mark of it either.
+pub fn marks_at_the_other_site_of_a_job()
+    ensures accepted { NoMarksElsewhereOn (marks_with [] 2 (local_row 0 10 0 Online (Old 1) ∷ []) []) offline_for_b }
+    ensures old { NoMarksElsewhereOn (marks_with [] 2 [] (local_row 0 10 0 Online (Old 1) ∷ [])) offline_for_b → ⊥ }
+{}
+
+/// Where it is settled and no mark is elsewhere, no row at any attached site has its mark.
+pub fn no_mark_anywhere()
+    ensures { (image : Image) (op : Op) → Marked image op Settled → NoMarksElsewhere image op → (location : Text) → IsAttachedIn image location → HasNoMark op (locals_at image location) }
+{}
+
+// ---- the step to Committed
+
+/// As it commits the news stand for the olds, its log row goes, and no other mapping, no other log row and no counter changes.
+pub fn global_store_as_it_commits()
+    ensures accepted { IsCommitted (global_moves (move_logged ∷ add_logged ∷ [])) move_logged (global_moved (add_logged ∷ [])) }
+    ensures not_replaced { IsCommitted (global_moves (move_logged ∷ [])) move_logged (global_moves []) → ⊥ }
+    ensures one_more_changed { IsCommitted (global_moves (move_logged ∷ [])) move_logged (record (global_moved []) { mappings = mappings_of (free_piece 0 5 site_b Offline ∷ []) }) → ⊥ }
+    ensures log_row_left { IsCommitted (global_moves (move_logged ∷ [])) move_logged (global_moved (move_logged ∷ [])) → ⊥ }
+    ensures other_log_row_gone { IsCommitted (global_moves (move_logged ∷ add_logged ∷ [])) move_logged (global_moved []) → ⊥ }
+    ensures counter { IsCommitted (global_moves (move_logged ∷ [])) move_logged (record (global_moved []) { counter = None }) → ⊥ }
+{}
+
+/// A job's step puts the job as well.
+pub fn job_as_its_step_commits()
+    ensures accepted { jobs_after (jobs_of (job_at 0 Idle ∷ [])) offline_for_b.extra ≡ jobs_of (job_at 0 (Copying (At (int_key 10))) ∷ []) }
+    ensures none { jobs_after (jobs_of (job_at 0 Idle ∷ [])) move_logged.extra ≡ jobs_of (job_at 0 Idle ∷ []) }
+    ensures not_put { IsCommitted (global_with [] [] (job_at 0 Idle ∷ []) None) offline_for_b (record (committed (global_with [] [] (job_at 0 Idle ∷ []) None) offline_for_b) { jobs = jobs_of (job_at 0 Idle ∷ []) }) → ⊥ }
 {}

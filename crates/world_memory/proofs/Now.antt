@@ -8,7 +8,7 @@ use Rattle.cell_world.specs.Keys.{same}
 use Rattle.cell_world.specs.Counts.{one_more}
 use Rattle.cell_world.specs.Stores.{Store, IsStore, empty_store}
 use Rattle.cell_world.specs.Images.{Image, Place, Happening, Committed, Wrote, Reopened, IsImage, empty_image, image_at, end_of_trail, extended}
-use Rattle.cell_world.specs.Outside.{Outside, TellsTrail, Same, happens, happens_at, place_at, store_at, read_at}
+use Rattle.cell_world.specs.Outside.{Outside, TellsTrail, SameButFaults, happens, happens_at, place_at, store_at, read_at}
 use Rattle.cell_world.specs.declared.cells.Site.{Site}
 use Rattle.cell_world.specs.declared.cells.Cell.{Cell}
 use Rattle.cell_world.proofs.KeyedLaws.{store_empty}
@@ -25,14 +25,14 @@ use Rattle.world_memory.proofs.Places.{stores_left}
 use Rattle.world_memory.proofs.Trails.{image_now, trail_added, kept_added}
 
 -- a world is the same as itself
-same_self : (o : Outside) → Same o o
+same_self : (o : Outside) → SameButFaults o o
 same_self o = record { same = refl; faults = λ site. omega arith; sink = omega arith }
 
-pub same_as : (a b : Outside) → b ≡ a → Same a b
-same_as a b is = subst (Same a) (sym is) (same_self a)
+pub same_as : (a b : Outside) → b ≡ a → SameButFaults a b
+same_as a b is = subst (SameButFaults a) (sym is) (same_self a)
 
 -- a read
-pub read_counted : (l : List Text) (hs : List Happened) (start reads after : ℕ) (site : Site) → after ≡ (if site.0 == 0 then one_more reads else reads) → Same (read_at (tells l (trail_from l hs start) reads) site) (tells l (trail_from l hs start) after)
+pub read_counted : (l : List Text) (hs : List Happened) (start reads after : ℕ) (site : Site) → after ≡ (if site.0 == 0 then one_more reads else reads) → SameButFaults (read_at (tells l (trail_from l hs start) reads) site) (tells l (trail_from l hs start) after)
 read_counted l hs start reads after site is = same_as _ _ (ap (tells l (trail_from l hs start)) is ∙ by (site.0 == 0))
   where
     by : (b : Bool) → tells l (trail_from l hs start) (if b then one_more reads else reads) ≡ (if b then record (tells l (trail_from l hs start) reads) { global_reads = one_more reads } else tells l (trail_from l hs start) reads)
@@ -69,7 +69,7 @@ module _ (l : List Text) (hs : List Happened) (start reads : ℕ) (within : star
   -- one thing more happens at the site
   pub happened_at : (h : Place → Happening) (e : Happened) (after : List Happened) → after ≡ hs ++ e ∷ []
       → ((place : Place) → place_at l site.0 ≡ Some place → told_as l (leaves l (empty_image l) hs) e ≡ h place)
-      → Same (happens_at (tells l (trail_from l hs start) reads) site h) (tells l (trail_from l after start) reads)
+      → SameButFaults (happens_at (tells l (trail_from l hs start) reads) site h) (tells l (trail_from l after start) reads)
   unfolding the_place
   happened_at h e after is told = same_as _ _
       (ap (λ xs. tells l (trail_from l xs start) reads) is
@@ -101,13 +101,13 @@ pub committed : (l : List Text) (before : Image) (site : Site) (copy change : Li
 committed l before site copy change same place is = ap (λ p. unwrap_or (option_map (λ q. Committed q copy true) p) (Wrote [])) is ∙ ap (λ es. Committed place es true) same
 
 module _ (l : List Text) (hs : List Happened) (start reads : ℕ) (within : start ≤ length hs) where
-  pub has_written : (copy bytes : Text) (after : List Happened) → copy ≡ bytes → after ≡ hs ++ kept.Wrote copy ∷ [] → Same (happens (tells l (trail_from l hs start) reads) (Wrote bytes)) (tells l (trail_from l after start) reads)
+  pub has_written : (copy bytes : Text) (after : List Happened) → copy ≡ bytes → after ≡ hs ++ kept.Wrote copy ∷ [] → SameButFaults (happens (tells l (trail_from l hs start) reads) (Wrote bytes)) (tells l (trail_from l after start) reads)
   has_written copy bytes after same is = same_as _ _
       (ap (λ xs. tells l (trail_from l xs start) reads) is
       ∙ ap (λ t. tells l t reads) (trail_added l hs (kept.Wrote copy) start within ∙ ap (λ b. extended (trail_from l hs start) (Wrote b)) same))
 
   pub has_reopened : (site : Site) → IsSome (place_at l site.0) → IsDistinct same l → AllByRecursion IsKept hs → (after : List Happened) → after ≡ hs ++ kept.Reopened site ∷ []
-      → (cells : Store) × IsStore cells × Same (happens_at (tells l (trail_from l hs start) reads) site (λ place. Reopened place cells)) (tells l (trail_from l after start) reads)
+      → (cells : Store) × IsStore cells × SameButFaults (happens_at (tells l (trail_from l hs start) reads) site (λ place. Reopened place cells)) (tells l (trail_from l after start) reads)
   has_reopened site known apart are after is = (
     store_after site.0 empty_store hs,
     now_store l hs start reads within site known apart are,

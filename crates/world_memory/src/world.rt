@@ -87,7 +87,7 @@ impl MemoryWorld {
     ghost use Rattle.cell_world.specs.Stores.{empty_store};
     ghost use Rattle.world_memory.specs.Kept.{Holds, store_after};
     ghost use Rattle.cell_world.specs.Images.{empty_image, image_at, end_of_trail, written};
-    ghost use Rattle.cell_world.specs.Outside.{IfTrail, Same, read_at};
+    ghost use Rattle.cell_world.specs.Outside.{IfTrail, SameButFaults, IsNewWorld, read_at};
     ghost use Rattle.world_memory.specs.Told.{fresh};
     ghost use Rattle.world_memory.specs.Memory.{outside_of};
 
@@ -95,7 +95,8 @@ impl MemoryWorld {
     pub fn new(alloc: Global, locations: &[Location]) -> Result<MemoryWorld, Memory>
         requires distinct { IsDistinct same locations.now }
         requires few { length locations.now ≤ 64 }
-        ensures { IfOk result (λ world. outside_of world ≡ fresh locations.now (empty_image locations.now)) }
+        ensures empty { IfOk result (λ world. outside_of world ≡ fresh locations.now (empty_image locations.now)) }
+        ensures counts { IfOk result (λ world. IsNewWorld (outside_of world)) }
     {
         known_locations(locations);
         let Ok(locations) = Vec::from_slice(alloc, locations) else {
@@ -114,7 +115,8 @@ impl MemoryWorld {
     /// It copies what happened up to then, and makes its table at its first read.
     pub fn crashed(&self, alloc: Global, moment: u64) -> Result<MemoryWorld, Memory>
         requires { IfTrail (outside_of self.now).told (λ trail. moment ≤ end_of_trail trail) }
-        ensures { IfOk result (λ world. IfTrail (outside_of self.now).told (λ trail. outside_of world ≡ fresh (outside_of self.now).locations (image_at trail moment))) }
+        ensures image { IfOk result (λ world. IfTrail (outside_of self.now).told (λ trail. outside_of world ≡ fresh (outside_of self.now).locations (image_at trail moment))) }
+        ensures counts { IfOk result (λ world. IsNewWorld (outside_of world)) }
     {
         let start = self.start + moment as usize;
         let Ok(locations) = Vec::from_slice(alloc, self.locations.as_slice()) else {
@@ -132,7 +134,7 @@ impl MemoryWorld {
 
     /// Counts a read of the site, and makes the table hold what the stores hold now.
     fn follow(&mut self, alloc: Global, site: Site) -> Result<(), WorldError>
-        ensures same { Same (read_at (outside_of self.old) site) (outside_of self.new) }
+        ensures same { SameButFaults (read_at (outside_of self.old) site) (outside_of self.new) }
         ensures holds { OnOk result (Holds self.new.contents.cells (λ n. store_after n empty_store self.old.happened.items)) }
         ensures cause { result ≡ Err WorldError.Failed → ⊥ }
     {

@@ -11,5 +11,5 @@ use Rattle.world_examples.proofs.lawful.lawful_split.Goals as goal
 pub returns : goal.returns
 returns c = accepted (kind.Range, Int) (free_piece 0 9 site_a Online ∷ []) [] [] [] tt (op_on 1 (range 0 9) (one_piece (free_piece 0 9 site_a Online)) (two_pieces (free_piece 0 4 site_a Online) (free_piece 4 9 site_a Online)) None)
     (record { on_m = refl; olds_stand = (refl, tt); of_map = (refl, (refl, (refl, tt))); olds_in_order = refl; news_in_order = refl; known = (refl, (refl, (refl, tt))); on_shards = (refl, (refl, tt)); spans = (refl, (refl, tt)); disjoint = refl; free = (λ h. inl refl, tt); hull = refl; no_drop = λ n e. cc })
-    (int_key 4, int_key 0, At (int_key 9), refl, refl, refl)
+    (record { key = int_key 4; from = int_key 0; to = At (int_key 9); range = refl; lower = refl; upper = refl })
     (refl)

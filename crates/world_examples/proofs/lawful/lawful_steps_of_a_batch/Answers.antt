@@ -16,7 +16,7 @@ use Rattle.world_examples.proofs.lawful.lawful_steps_of_a_batch.Goals as goal
 pub returns-clause-split : goal.returns-clause-split
 returns-clause-split c = accepted (kind.Range, Int) (job_piece 0 10 site_a Online ∷ []) (job_at 0 Idle ∷ []) (1 ∷ 2 ∷ 3 ∷ []) [] tt (op_on 1 (range 0 10) (one_piece (job_piece 0 10 site_a Online)) (two_pieces (job_piece 0 3 site_a Online) (job_piece 3 10 site_a Online)) None)
     (record { on_m = refl; olds_stand = (refl, tt); of_map = (refl, (refl, (refl, tt))); olds_in_order = refl; news_in_order = refl; known = (refl, (refl, (refl, tt))); on_shards = (refl, (refl, tt)); spans = (refl, (refl, tt)); disjoint = refl; free = (λ h. inl refl, tt); hull = refl; no_drop = λ n e. cc })
-    (int_key 3, int_key 0, At (int_key 10), refl, refl, refl)
+    (record { key = int_key 3; from = int_key 0; to = At (int_key 10); range = refl; lower = refl; upper = refl })
     (rw (get_of nat_cmp (keyed_jobs (job_at 0 Idle ∷ [])) tt 1) (record { row = rw (entries_of pair_cmp (keyed_pieces (job_piece 0 10 site_a Online ∷ [])) tt, entries_of pair_cmp (keyed_pieces (job_piece 0 10 site_a Online ∷ [])) tt, get_of byte_cmp entries_m tt map_m) (At (int_key 3), record { above = refl; piece = job_piece 0 10 site_a Online; owned = rw (get_of byte_cmp entries_m tt map_m, entries_of pair_cmp (keyed_pieces (job_piece 0 10 site_a Online ∷ [])) tt) refl; within = refl }, refl); emptied = tt }))
 
 pub returns-clause-offline : goal.returns-clause-offline

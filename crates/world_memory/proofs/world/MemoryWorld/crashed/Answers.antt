@@ -34,8 +34,8 @@ invariant_of-result c =
       counted = omega arith;
     }
 
-pub returns : goal.returns
-returns c =
+pub returns-clause-image : goal.returns-clause-image
+returns-clause-image c =
     let copied : c.in_ok-happened.happened.items ≡ take (c.args.self.now.start + c.args.moment) c.args.self.now.happened.items = c.in_ok-happened.ensures ∙ ap (take (c.args.self.now.start + c.args.moment)) c.deref.ensures.value in
     let places : c.in-Ok.locations.items ≡ c.args.self.now.locations.items = c.in-Ok.ensures.items ∙ c.as_slice.ensures.value in
     (λ i. tells (places i) (trail_from (places i) (copied i) (c.args.self.now.start + c.args.moment)) 0)

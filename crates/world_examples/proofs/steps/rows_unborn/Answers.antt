@@ -1,0 +1,19 @@
+use Rattle.std.proofs.Common.{◌≡◌, ℕ, refl, [], ◌∷◌, arith}
+use Rattle.cell_world.specs.declared.cells.Mark.TheVariants.{Plain, Old, New}
+use Rattle.cell_world.specs.declared.cells.Status.TheVariants.{Online, Offline}
+use Rattle.world_examples.specs.Examples.{local_row}
+use Rattle.world_examples.proofs.ShortTables.{local_in}
+use Rattle.world_examples.proofs.Sweeping.{unborn, zero_not_one}
+use Rattle.world_examples.proofs.steps.rows_unborn.Goals as goal
+
+pub returns-clause-accepted : goal.returns-clause-accepted
+returns-clause-accepted c = unborn (local_row 0 5 0 Offline Plain ∷ local_row 5 9 2 Online New ∷ []) tt (zero_not_one, ((λ e. let two : ◌≡◌ {A = ℕ} 2 1 = e in omega arith), tt))
+
+pub returns-clause-new : goal.returns-clause-new
+returns-clause-new c = λ h. h (local_row 0 5 1 Offline New) (local_in (local_row 0 5 1 Offline New ∷ []) tt (local_row 0 5 1 Offline New) refl) refl
+
+pub returns-clause-plain : goal.returns-clause-plain
+returns-clause-plain c = λ h. h (local_row 5 9 1 Online Plain) (local_in (local_row 5 9 1 Online Plain ∷ []) tt (local_row 5 9 1 Online Plain) refl) refl
+
+pub returns-clause-old_of_another : goal.returns-clause-old_of_another
+returns-clause-old_of_another c = λ h. h (local_row 5 9 1 Online (Old 2)) (local_in (local_row 5 9 1 Online (Old 2) ∷ []) tt (local_row 5 9 1 Online (Old 2)) refl) refl
