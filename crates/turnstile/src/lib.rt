@@ -6,6 +6,8 @@ mod historied;
 mod opening;
 mod passes;
 mod plays;
+#[cfg(test)]
+mod tests;
 mod turns;
 mod view;
 
