@@ -8,6 +8,17 @@ use Rattle.turnstile.specs.Entries.{StartsWith}
 abbrev pub slots_held : {S : Type 0} → Bool → List (ℕ × Opt S)
 slots_held holds = cond holds ((0, None) ∷ []) []
 
+-- What is so of a pass between two calls, where its seat has this view and these slots, and it remembers this length.
+pub record Sits {S E : Type 0} (me : Me (Opt S) (View E)) (entered : ℕ) : Type 0 where
+  -- it isn't gathered
+  pub live : me.0.live ≡ true
+  -- it has the emptied slot while it holds, and else none
+  pub slots : me.1 ≡ slots_held me.0.holds
+  -- it has gathered no pass
+  pub known : me.0.known ≡ []
+  -- while it holds, it remembers the length of the list that it took out
+  pub remembers : me.0.holds ≡ true → entered ≡ length me.0.list
+
 module _ {S E : Type 0} (list : S → List E) where
   -- the view of a pass that has taken this value
   abbrev pub taken : View E → S → View E

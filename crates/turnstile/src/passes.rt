@@ -15,15 +15,14 @@ pub struct Pass<V, E> {
 }
 
 impl<V, E> Model for Pass<V, E> {
-    ghost use Rattle.std.specs.Prelude.{◌≡◌, true, [], length};
-    ghost use Rattle.turnstile.specs.Steps.{slots_held};
+    ghost use Rattle.turnstile.specs.Steps.{Sits};
     ghost use Rattle.turnstile.specs.States.{PassState, pass_state};
 
     ghost Value = { PassState E };
 
     ghost view = { λ p. pass_state p.seat.table_id p.seat.me.0 };
 
-    ghost invariant = { λ p. (p.seat.me.0.live ≡ true) × (p.seat.me.1 ≡ slots_held p.seat.me.0.holds) × (p.seat.me.0.known ≡ []) × (p.seat.me.0.holds ≡ true → p.entered ≡ length p.seat.me.0.list) };
+    ghost invariant = { λ p. Sits p.seat.me p.entered };
 }
 
 /// Pass 0 while it makes the others, and while it gathers them.

@@ -14,7 +14,7 @@ join_seat-requires g c =
     let n : p.seat.me.0.number ≡ suc (length first.seat.me.0.known) = omega arith in (
       c.requires.table ∙ here,
       ap (λ s. s.table) v ∙ (c.requires.pass.0 ∙ here),
-      c.pass.invariant.1 ∙ ap slots_held holds,
+      c.pass.invariant.slots ∙ ap slots_held holds,
       omega arith,
-      joins _ _ _ _ _ _ _ first.idle.0 first.idle.2 first.idle.1 c.pass.invariant.0 holds n,
+      joins _ _ _ _ _ _ _ first.idle.0 first.idle.2 first.idle.1 c.pass.invariant.live holds n,
     )
