@@ -1,15 +1,14 @@
 -- A new pass, a pass that is given up, and the end.
-use Rattle.std.proofs.Common.{◌≡◌, ◌≢◌, ℕ, zero, suc, ◌+◌, ◌<◌, ◌≤◌, ◌⊎◌, inl, inr, ⊎_elim, Bool, true, false, List, [], ◌∷◌, ◌++◌, length, set, map, refl, sym, ap, subst, ◌∙◌, append-nil, length-append, le_refl, arith, Option as Opt, Some, None}
+use Rattle.std.proofs.Common.{◌≡◌, ◌≢◌, ℕ, zero, suc, ◌<◌, ◌≤◌, ◌⊎◌, inl, inr, ⊎_elim, true, false, List, [], ◌∷◌, ◌++◌, length, set, refl, sym, ap, subst, ◌∙◌, append-nil, length-append, le_refl, arith, Option as Opt, Some}
 use Rattle.std.proofs.Math.ListN.{length-set}
-use mathlib.Core.Option.{Option, some, none, some-injective, some-ne-none}
+use mathlib.Core.Option.{Option, some, some-injective, some-ne-none}
 use lib.ListN.{get_elem?}
-use Rattle.atomic_table.specs.Table.{State, Splits, Joins, opening, Final, Seen}
-use Rattle.atomic_table.proofs.Lists.{at_set, at_longer, at_last, set_here, set_else}
+use Rattle.atomic_table.specs.Table.{Splits, Joins, opening, Final, Seen}
+use Rattle.atomic_table.proofs.Lists.{at_set, at_longer, set_here, set_else}
 use Rattle.turnstile.specs.declared.view.View.{View}
-use Rattle.turnstile.specs.Entries.{entries_of, entries_by, StartsWith}
+use Rattle.turnstile.specs.Entries.{entries_by, StartsWith}
 use Rattle.turnstile.specs.Rule.{Fits, Free, Taken, Kept, Woven, opening_view, spent_view}
 use Rattle.turnstile.specs.Steps.{after_making, new_view, after_joining}
-use Rattle.turnstile.proofs.Logs.{starts_refl}
 use Rattle.turnstile.proofs.Moves.{true_false, apart, at_below}
 
 at_end : {A : Type 0} (l : List A) (a b : A) (j : ℕ) → get_elem? (l ++ a ∷ []) j ≡ some b → (get_elem? l j ≡ some b) ⊎ ((j ≡ length l) × (a ≡ b))

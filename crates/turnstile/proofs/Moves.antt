@@ -1,17 +1,17 @@
 -- Each step keeps the rule.
-use Rattle.std.proofs.Common.{◌≡◌, ◌≢◌, ℕ, zero, suc, ◌+◌, ◌-◌, ◌%◌, ◌^◌, ◌<◌, ◌≤◌, ◌⊎◌, inl, inr, ⊎_elim, eqb, eq-eqb, ne_eqb, cond, Bool, true, false, List, [], ◌∷◌, ◌++◌, length, drop, set, slice_index, slice_set, refl, sym, ap, subst, ◌∙◌, append_assoc, append-nil, length-append, arith, Option as Opt, Some, None}
+use Rattle.std.proofs.Common.{◌≡◌, ◌≢◌, ℕ, zero, suc, ◌+◌, ◌%◌, ◌^◌, ◌<◌, ◌≤◌, ◌⊎◌, inl, inr, ⊎_elim, eqb, Bool, true, false, List, [], ◌∷◌, ◌++◌, length, drop, set, slice_index, slice_set, refl, sym, ap, subst, ◌∙◌, append-nil, arith, Option as Opt, Some, None}
 use Rattle.std.proofs.Math.ListN.{length-set}
 use Rattle.std.proofs.Math.Nat.{mod-eq_of_lt}
 use mathlib.Core.Option.{Option, some, none, some-injective, some-ne-none}
 use lib.ListN.{get_elem?}
 use prog.Atomic.{either}
-use Rattle.atomic_table.specs.Table.{State, Me, Step, step, Act, keeps, takes, gives, Valid, rest, carried_after, stepped, Allows, Splits, Joins, opening, Final, Seen}
-use Rattle.atomic_table.proofs.Lists.{at_set, at_snoc, at_longer, at_last, set_here, set_else, set_again, exchanged}
+use Rattle.atomic_table.specs.Table.{State, Me, Step, step, Act, keeps, takes, gives, Valid, rest, carried_after, stepped, Allows}
+use Rattle.atomic_table.proofs.Lists.{at_set, set_here, set_else, set_again}
 use Rattle.turnstile.specs.declared.view.View.{View}
-use Rattle.turnstile.specs.Entries.{entries_of, entries_by, tagged, StartsWith}
-use Rattle.turnstile.specs.Rule.{Fits, Free, Taken, Kept, opening_view, spent_view}
-use Rattle.turnstile.specs.Steps.{slots_held, taken, counted, Takes, Counts, Gives, after_making, new_view, after_joining}
-use Rattle.turnstile.proofs.Logs.{more_own, more_else, more_all, starts_refl, starts_more, starts_split, drop_append}
+use Rattle.turnstile.specs.Entries.{entries_by, tagged, StartsWith}
+use Rattle.turnstile.specs.Rule.{Fits, Free, Taken, Kept}
+use Rattle.turnstile.specs.Steps.{taken, counted, Takes, Counts, Gives}
+use Rattle.turnstile.proofs.Logs.{more_own, more_else, more_all, starts_more, starts_split}
 
 pub true_false : {A : Type 0} (b : Bool) → b ≡ true → b ≡ false → A
 true_false b t f = let e : true ≡ false = sym t ∙ f in absurd cc

@@ -1,5 +1,5 @@
 -- A fact of each element and its place.
-use Rattle.std.proofs.Common.{◌≡◌, ℕ, zero, suc, ◌+◌, ◌<◌, ◌≤◌, List, [], ◌∷◌, ◌++◌, length, take, get_or, refl, sym, ap, subst, ◌∙◌, arith}
+use Rattle.std.proofs.Common.{◌≡◌, ℕ, zero, suc, ◌+◌, ◌<◌, List, [], ◌∷◌, ◌++◌, length, take, get_or, refl, ap, subst, arith}
 use Rattle.atomic_table.specs.Seated.{TableId}
 use Rattle.turnstile.specs.States.{EachAt, IsIdle, IsNew, PassState}
 

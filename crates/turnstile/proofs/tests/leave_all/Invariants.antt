@@ -1,4 +1,4 @@
-use Rattle.std.proofs.Common.{◌≡◌, ◌≤◌, false}
+use Rattle.std.proofs.Common.{◌≡◌, false}
 use Rattle.turnstile.proofs.tests.leave_all.Given as goal
 
 abbrev pub invariant-loop-i : goal.invariant-loop-i

@@ -1,4 +1,4 @@
-use Rattle.std.proofs.Common.{◌≡◌, ℕ, ◌+◌, suc, length, ap, sym, ◌∙◌, arith}
+use Rattle.std.proofs.Common.{◌≡◌, ◌+◌, suc, length, ap, sym, ◌∙◌, arith}
 use Rattle.turnstile.specs.Steps.{slots_held}
 use Rattle.turnstile.proofs.Ends.{joins}
 use Rattle.turnstile.proofs.turns.Turnstile.absorb.Goals as goal

@@ -1,4 +1,4 @@
-use Rattle.std.proofs.Common.{◌≡◌, ap, sym, ◌∙◌, subst, ◌<◌, arith}
+use Rattle.std.proofs.Common.{ap, sym, ◌∙◌, subst, ◌<◌, arith}
 use Rattle.turnstile.proofs.Ends.{splits}
 use Rattle.turnstile.proofs.turns.Turnstile.another.Goals as goal
 

@@ -1,5 +1,5 @@
-use Rattle.std.proofs.Common.{◌≡◌, ℕ, ◌+◌, suc, length, ◌∷◌, Some, None, ap, sym, subst, ◌∙◌, arith}
-use mathlib.Core.Option.{some, some-injective}
+use Rattle.std.proofs.Common.{◌≡◌, suc, length, ◌∷◌, Some, ap, sym, subst, ◌∙◌, arith}
+use mathlib.Core.Option.{some-injective}
 use Rattle.turnstile.specs.Rule.{Woven}
 use Rattle.turnstile.proofs.Ends.{ends}
 use Rattle.turnstile.proofs.turns.Turnstile.end.Goals as goal

@@ -1,5 +1,4 @@
-use Rattle.std.proofs.Common.{rules, ◌≡◌, ℕ, ◌+◌, ◌<◌, ◌≤◌, List, [], ◌∷◌, ◌++◌, length, suc, vec_len, vec_capacity, ap, sym, subst, ◌∙◌, refl, arith}
-use Rattle.turnstile.specs.States.{EachAt, IsNew}
+use Rattle.std.proofs.Common.{◌≡◌, suc, ap, ◌∙◌, arith}
 use Rattle.turnstile.proofs.Places.{each_end}
 use Rattle.turnstile.proofs.turns.Turnstile.fill.Goals as goal
 

@@ -1,4 +1,4 @@
-use Rattle.std.proofs.Common.{◌≡◌, ℕ, ◌+◌, [], vec_len, vec_capacity}
+use Rattle.std.proofs.Common.{◌≡◌, ◌+◌, [], vec_len, vec_capacity}
 use Rattle.turnstile.specs.States.{EachAt, IsNew}
 use Rattle.turnstile.proofs.turns.Turnstile.fill.Given as goal
 

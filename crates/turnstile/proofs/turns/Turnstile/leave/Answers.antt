@@ -1,4 +1,4 @@
-use Rattle.std.proofs.Common.{rules, ◌≡◌, ℕ, ◌+◌, ◌-◌, ◌<◌, ◌^◌, true, length, ap, sym, subst, ◌∙◌, arith}
+use Rattle.std.proofs.Common.{◌≡◌, ◌+◌, ◌-◌, ◌<◌, ◌^◌, true, length, ap, sym, subst, ◌∙◌, arith}
 use Rattle.turnstile.specs.Entries.{StartsWith}
 use Rattle.turnstile.proofs.Leaving.{filled}
 use Rattle.turnstile.proofs.Logs.{starts_long}

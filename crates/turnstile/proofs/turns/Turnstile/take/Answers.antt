@@ -1,4 +1,4 @@
-use Rattle.std.proofs.Common.{◌≡◌, ap, sym, ◌∙◌, refl, arith, rules, Some}
+use Rattle.std.proofs.Common.{ap, sym, ◌∙◌, arith, Some}
 use Rattle.turnstile.proofs.Moves.{takes_at, one_slot}
 use Rattle.turnstile.proofs.turns.Turnstile.take.Goals as goal
 
