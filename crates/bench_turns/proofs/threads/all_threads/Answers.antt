@@ -1,5 +1,5 @@
 use Rattle.std.proofs.Common.{◌≡◌, ℕ, ◌<◌, length, slice_index_or, sym, subst, arith}
-use Rattle.turnstile.specs.States.{EachAt, IsIdle}
+use Rattle.turnstile.specs.States.{IsIdle}
 use Rattle.turnstile.proofs.Places.{each_at, each_of}
 use Rattle.bench_turns.proofs.threads.all_threads.Goals as goal
 

@@ -1,4 +1,4 @@
-use Rattle.std.proofs.Common.{◌≡◌, ◌≤◌, false}
+use Rattle.std.proofs.Common.{◌≡◌, false}
 use Rattle.bench_turns.proofs.threads.one_thread.Given as goal
 
 abbrev pub invariant-loop : goal.invariant-loop
