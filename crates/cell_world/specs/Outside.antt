@@ -8,6 +8,7 @@ use Rattle.cell_world.specs.Images.{Image, Place, Global, Shard, Happening, Comm
 use Rattle.cell_world.specs.Counts.{last_count, one_more, Rose, StoreRose, NeverFall}
 use Rattle.cell_world.specs.declared.cells.Site.{Site}
 use Rattle.cell_world.specs.declared.changes.Edit.{Edit}
+use Rattle.cell_world.specs.declared.limits.TheConstants.{MOST_LOCATIONS}
 use Rattle.cell_world.specs.declared.outside.WorldError.{WorldError}
 use Rattle.cell_world.specs.declared.outside.WorldError.TheVariants.{Failed, Memory}
 
@@ -75,6 +76,13 @@ pub record Same (old new : Outside) : Type 0 where
   pub faults : NeverFall old.faults_at new.faults_at
   pub sink : old.sink_faults ≤ new.sink_faults
 
+-- The same world later: its locations are the same, and no count fell.
+pub record IsLater (old new : Outside) : Type 0 where
+  pub locations : new.locations ≡ old.locations  -- it knows the same ones, in the same order
+  pub faults : NeverFall old.faults_at new.faults_at  -- of the calls at each site
+  pub sink : old.sink_faults ≤ new.sink_faults  -- of the writes
+  pub reads : old.global_reads ≤ new.global_reads  -- how often the global store was read
+
 -- a read of site 0 is counted
 abbrev pub read_at : Outside → Site → Outside
 read_at o site = if site.0 == 0 then record o { global_reads = one_more o.global_reads } else o
@@ -135,9 +143,9 @@ IsOver locations (TellsTrail trail) = trail.start.locations ≡ locations
 pub record IsWorld (o : Outside) : Type 0 where
   -- each location is one by its grammar
   pub spelled : AllByRecursion (λ location. IsTrue (is_location location)) o.locations
-  -- they are distinct, and at most 64
+  -- they are distinct, and not too many
   pub distinct : IsDistinct same o.locations
-  pub few : length o.locations ≤ 64
+  pub few : length o.locations ≤ MOST_LOCATIONS
   -- each count is kept in 64 bits
   pub faults : (site : ℕ) → o.faults_at site ≤ last_count
   pub sink : o.sink_faults ≤ last_count

@@ -8,7 +8,7 @@ ghost use Rattle.key_space.specs.Printing.{printed_text};
 
 use crate::keys::Key;
 use crate::values::Guid;
-use cell_world::items::Memory;
+use cell_world::memory::Memory;
 use std::alloc::{AllocError, Global};
 use uuid::Uuid;
 

@@ -3,7 +3,7 @@ ghost use Rattle.std.specs.Prelude.{◌≡◌, ◌++◌, ◌∷◌, ◌<◌, [],
 
 use crate::commands::Command;
 use crate::replies::Reply;
-use cell_world::items::Memory;
+use cell_world::memory::Memory;
 use std::alloc::Global;
 use std::marker::Model;
 

@@ -16,7 +16,8 @@ use Rattle.script_lang.specs.Sources.{script_limit, IfTold, HasMore, TookAtMost}
 use Rattle.script_shell.specs.Promises.{Runs, RunsScript, Completes, causes_of, no_causes, has_begun, is_of_commands, is_complete, comes_now, ends_early}
 use Rattle.script_shell.proofs.HistoryLaws.{in_order}
 use Rattle.script_shell.proofs.ScriptLaws.{script_is_whole, one_faulty}
-use Rattle.script_shell.proofs.WholeLaws.{holds_on_trail, holds_by_states, keeps_none, later_same, store_rose_none}
+use Rattle.cell_world.proofs.LaterLaws.{later_same}
+use Rattle.script_shell.proofs.WholeLaws.{holds_on_trail, holds_by_states, keeps_none, store_rose_none}
 
 -- what the test of the words says
 pub no_words : {A : Type 0} (words : List A) (n : ℕ) (test : Bool) → test ≡ (n == 0) → test ≡ true → n ≡ length words → words ≡ []

@@ -6,14 +6,14 @@ use Rattle.cell_world.specs.Counts.{Rose}
 use Rattle.cell_world.specs.Images.{Image, Wrote, end_of_trail, extended, after_one}
 use Rattle.cell_world.specs.Meaning.{meaning}
 use Rattle.cell_world.specs.Sound.{Sound}
-use Rattle.cell_world.specs.Outside.{Outside, Told, TellsContents, TellsTrail, IfContents, IfTrail, told_after}
+use Rattle.cell_world.specs.Outside.{Outside, Told, TellsContents, TellsTrail, IfContents, IfTrail, told_after, IsLater}
 use Rattle.cell_world.specs.declared.outside.WorldError.TheVariants as error
 use Rattle.plain_model.specs.declared.history.Entry.{Entry}
 use Rattle.plain_model.specs.declared.replies.Reply.{Reply}
 use Rattle.plain_model.specs.Entries.{opened, settled}
 use Rattle.plain_model.proofs.AloneLaws.{alone_enters}
 use Rattle.script_shell.specs.Scripts.{map_command}
-use Rattle.script_shell.specs.Answering.{reply_of, line_of, AnswersMap, AnswersAt, CommitsAt, map_commit, standing_with, WritesLine, IsLater}
+use Rattle.script_shell.specs.Answering.{reply_of, line_of, AnswersMap, AnswersAt, CommitsAt, map_commit, standing_with, WritesLine}
 use Rattle.script_shell.specs.Going.{HasGoneOn, KeepsRun, RunsTo, HasGoneTo, KeepsContents, IsEntered, Asks}
 use Rattle.script_shell.specs.declared.answers.Answer.{Answer}
 use Rattle.script_shell.specs.declared.answers.Answer.TheVariants as answers

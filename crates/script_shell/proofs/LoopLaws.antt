@@ -4,7 +4,7 @@ use Rattle.std.specs.Prelude.{IsSome}
 use Rattle.std.proofs.lemmas.List.{append_assoc}
 use Rattle.cell_world.specs.Texts.{Text}
 use Rattle.cell_world.specs.Counts.{Rose}
-use Rattle.cell_world.specs.Outside.{Outside, StoreRoseBy}
+use Rattle.cell_world.specs.Outside.{Outside, StoreRoseBy, IsLater}
 use Rattle.cell_world.specs.declared.outside.WorldError.TheVariants as error
 use Rattle.plain_model.specs.declared.finish.RunStatus.{RunStatus}
 use Rattle.plain_model.specs.declared.finish.RunStatus.TheVariants as status
@@ -14,7 +14,7 @@ use Rattle.plain_model.specs.Refusing.{if_there}
 use Rattle.plain_model.specs.Summary.{replies_of, counts_as_refused, is_fault, is_memory}
 use Rattle.plain_model.specs.Headline.{faults, EndsAnswered, EndsWithMemory, has_stopped, is_done, did_nothing, StatusCause}
 use Rattle.script_shell.specs.Scripts.{asked_of}
-use Rattle.script_shell.specs.Answering.{reply_of, IsLater}
+use Rattle.script_shell.specs.Answering.{reply_of}
 use Rattle.script_shell.specs.Going.{KeepsRun, KeepsContents, IsEntered, Asks, stop_of, refuses, is_refusal}
 use Rattle.script_shell.specs.Promises.{ends_early, is_of_commands, no_causes, EndsWithFault, Runs}
 use Rattle.script_shell.specs.declared.answers.Answer.{Answer}
@@ -22,7 +22,8 @@ use Rattle.script_shell.specs.declared.answers.Answer.TheVariants as answers
 use Rattle.script_shell.specs.declared.answers.Outcome.{Outcome}
 use Rattle.script_shell.specs.declared.answers.Outcome.TheVariants.{Answered, Unasked, Unwritten}
 use Rattle.script_shell.proofs.HistoryLaws.{AreAnswersTo, answers_push, in_order, all_answered, promises_none, ends_answered, replies_push, no_operations, memory_last, memory_none, fault_last, fault_none}
-use Rattle.script_shell.proofs.WholeLaws.{EndsWritten, holds_on_trail, holds_by_states, keeps_none, keeps_then, contents_then, later_same, later_then, store_rose_none, store_rose_one}
+use Rattle.cell_world.proofs.LaterLaws.{later_same, later_then}
+use Rattle.script_shell.proofs.WholeLaws.{EndsWritten, holds_on_trail, holds_by_states, keeps_none, keeps_then, contents_then, store_rose_none, store_rose_one}
 
 -- the run after some commands, none of which met a fault or want of memory
 pub record SoFar (script rest : List Text) (old new : Outside) (before history : List Entry) (refused : Bool) : Type 0 where

@@ -1,7 +1,5 @@
 -- What was read decides what `map` is answered, and its commit is the plain step.
 use Rattle.std.proofs.Common.{◌≡◌, inl, inr, ℕ, Bool, true, false, length, List, [], ◌∷◌, Option, Some, None, is_some, refl, sym, ap, ◌∙◌, subst, nat_le}
-use Rattle.std.specs.Prelude.{IsTrue}
-use Rattle.std.specs.Option.{SomeIff}
 use Rattle.std.specs.FinMap as map
 use Rattle.cell_world.specs.Texts.{Text}
 use Rattle.cell_world.specs.Images.{Image, Global, global, image_at, end_of_trail, after_one}
@@ -16,6 +14,7 @@ use Rattle.cell_world.specs.declared.cells.MapKind.{MapKind}
 use Rattle.cell_world.specs.declared.cells.KeyType.{KeyType}
 use Rattle.cell_world.specs.declared.cells.MapKind.TheVariants.{Range}
 use Rattle.cell_world.specs.declared.cells.KeyType.TheVariants.{Int}
+use Rattle.cell_world.specs.declared.limits.TheConstants.{MOST_MAPS}
 use Rattle.cell_world.proofs.MapKeepsSound.{meaning-put_map, map_keeps_sound}
 use Rattle.plain_model.specs.declared.replies.Refusal.{Refusal}
 use Rattle.plain_model.specs.declared.replies.Refusal.TheVariants as refused
@@ -47,17 +46,13 @@ contents_store TellsNothing cells = tt
 contents_store (TellsContents image) cells = cells Global
 contents_store (TellsTrail trail) cells = cells (end_of_trail trail) Global
 
--- the name that was read is the one that is spelled
-pub spelled : (read : Option Text) (name text : Text) → SomeIff read (IsTrue true) text → read ≡ Some name → name ≡ text
-spelled read name text said is = let so : SomeIff (Some name) (IsTrue true) text = subst (λ r. SomeIff r (IsTrue true) text) is said in so.1
-
--- the scan from the least name says whether 64 maps stand
-pub scan_tells : (told : Told) (found : List Cell) (least : Text) (count : ℕ) → TellsCells told → least ≡ 65 ∷ [] → count ≡ length found → IfContents told (λ image. IsScan (global image) (at.Map least) 64 found)
-    → IfContents told (λ image. nat_le 64 count ≡ nat_le 64 (map.len (global image).maps))
+-- the scan from the least name says whether as many maps stand as may
+pub scan_tells : (told : Told) (found : List Cell) (least : Text) (count : ℕ) → TellsCells told → least ≡ 65 ∷ [] → count ≡ length found → IfContents told (λ image. IsScan (global image) (at.Map least) MOST_MAPS found)
+    → IfContents told (λ image. nat_le MOST_MAPS count ≡ nat_le MOST_MAPS (map.len (global image).maps))
 scan_tells told found least count cells is counted scanned =
-    contents_weaker told (λ image. IsStore (global image) × IsScan (global image) (at.Map least) 64 found) (λ image. nat_le 64 count ≡ nat_le 64 (map.len (global image).maps))
-    (λ image both. ap (nat_le 64) counted ∙ scan_counts (global image) both.0 64 found (subst (λ name. IsScan (global image) (at.Map name) 64 found) is both.1))
-    (contents_both told (λ image. IsStore (global image)) (λ image. IsScan (global image) (at.Map least) 64 found) (contents_store told cells) scanned)
+    contents_weaker told (λ image. IsStore (global image) × IsScan (global image) (at.Map least) MOST_MAPS found) (λ image. nat_le MOST_MAPS count ≡ nat_le MOST_MAPS (map.len (global image).maps))
+    (λ image both. ap (nat_le MOST_MAPS) counted ∙ scan_counts (global image) both.0 MOST_MAPS found (subst (λ name. IsScan (global image) (at.Map name) MOST_MAPS found) is both.1))
+    (contents_both told (λ image. IsStore (global image)) (λ image. IsScan (global image) (at.Map least) MOST_MAPS found) (contents_store told cells) scanned)
 
 -- ---- the answer
 
@@ -69,16 +64,16 @@ module _ (name : Text) where
   abbrev Stands : Bool → Image → Type 0
   Stands stands image = stands ≡ map.contains_key (global image).maps name
 
-  -- whether 64 maps stand
+  -- whether as many maps stand as may
   abbrev Fills : Bool → Image → Type 0
-  Fills full image = full ≡ nat_le 64 (map.len (global image).maps)
+  Fills full image = full ≡ nat_le MOST_MAPS (map.len (global image).maps)
 
   decides : (image : Image) (connections : Connections) (stands full : Bool) → Stands stands image → Fills full image → refusal_of_map (standing_with image connections) name ≡ tests stands full
   unfolding refusal
   decides image connections stands full s f = λ i. tests (sym s i) (sym f i)
 
   exists : (image : Image) (connections : Connections) (stands : Bool) → stands ≡ true → Stands stands image → refusal_of_map (standing_with image connections) name ≡ Some refused.MapExists
-  exists image connections stands is s = decides image connections stands (nat_le 64 (map.len (global image).maps)) s refl ∙ ap (λ b. tests b (nat_le 64 (map.len (global image).maps))) is
+  exists image connections stands is s = decides image connections stands (nat_le MOST_MAPS (map.len (global image).maps)) s refl ∙ ap (λ b. tests b (nat_le MOST_MAPS (map.len (global image).maps))) is
 
   pub answers_exists : (old new : Told) (stands : Bool) → stands ≡ true → new ≡ old → IfContents old (Stands stands) → AnswersMap old new name MapExists
   answers_exists old new stands is same told =

@@ -19,7 +19,6 @@ use Rattle.plain_model.specs.ByMoments.{RunsByMoments}
 use Rattle.plain_model.specs.Headline.{EndsAnswered, has_stopped, SoundAtEachMoment, IsLegalHistory, OnlyWhatHappened, FollowsTo}
 use Rattle.plain_model.proofs.RunsAtMoments.{runs_by_moments, all_lines_written}
 use Rattle.plain_model.proofs.AloneLaws.{alone_begins, alone_follows}
-use Rattle.script_shell.specs.Answering.{IsLater}
 use Rattle.script_shell.proofs.Untried.{none_named}
 use Rattle.script_shell.specs.Going.{RunsOn, KeepsRun, KeepsContents}
 use Rattle.script_shell.specs.Promises.{ends_early, HoldsOnTrail, HoldsByStates}
@@ -108,17 +107,6 @@ pub contents_then : (old mid new : Told) (none one two : List Entry) → KeepsCo
 contents_then old mid new none one two first second start image is run = let mids = first start image is run in second start mids.image mids.told mids.runs
 
 -- ---- counts
-
-pub later_same : (o : Outside) → IsLater o o
-later_same o = record { locations = refl; faults = λ site. omega arith; sink = omega arith; reads = omega arith }
-
-pub later_then : (a b c : Outside) → IsLater a b → IsLater b c → IsLater a c
-later_then a b c ab bc = record {
-  locations = bc.locations ∙ ab.locations;
-  faults = λ site. omega (arith, ab.faults site, bc.faults site);
-  sink = omega (arith, ab.sink, bc.sink);
-  reads = omega (arith, ab.reads, bc.reads);
-}
 
 sums_never_fall : (n : ℕ) (old new : ℕ → ℕ) → NeverFall old new → store_count n old ≤ store_count n new
 sums_never_fall zero old new up = omega arith

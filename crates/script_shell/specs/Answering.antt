@@ -1,12 +1,11 @@
 -- The answers to `map`, and what the command does to the world.
-use Rattle.std.specs.Prelude.{◌≡◌, ◌⊎◌, ℕ, ◌≤◌, Bool, true, List, [], ◌∷◌, take, Option, Some, None}
+use Rattle.std.specs.Prelude.{◌≡◌, ◌⊎◌, ℕ, Bool, true, List, [], ◌∷◌, take, Option, Some, None}
 use Rattle.cell_world.specs.Texts.{Text}
-use Rattle.cell_world.specs.Counts.{NeverFall}
 use Rattle.cell_world.specs.Images.{Image, Global, Happening, Committed, Wrote, after_one}
 use Rattle.cell_world.specs.Plain.{PlainState, Connections, holds_nothing, with_connections}
 use Rattle.cell_world.specs.Meaning.{meaning}
 use Rattle.cell_world.specs.Sound.{Sound}
-use Rattle.cell_world.specs.Outside.{Outside, Told, IfContents, told_after}
+use Rattle.cell_world.specs.Outside.{Told, IfContents, told_after}
 use Rattle.cell_world.specs.declared.cells.Cell.TheVariants as cell
 use Rattle.cell_world.specs.declared.cells.MapKind.TheVariants.{Range}
 use Rattle.cell_world.specs.declared.cells.KeyType.TheVariants.{Int}
@@ -85,13 +84,6 @@ abbrev pub AnswersMap : Told → Told → Text → Answer → Type 0
 AnswersMap old new name answer =
     ((new ≡ old) × IfContents old (AnswersAt name answer))
     ⊎ ((took : Bool) × (new ≡ told_after old (map_commit name took)) × IfContents old (λ image. Sound image → CommitsAt name answer took image))
-
--- The same world later: its locations are the same, and no count fell.
-pub record IsLater (old new : Outside) : Type 0 where
-  pub locations : new.locations ≡ old.locations  -- it knows the same ones, in the same order
-  pub faults : NeverFall old.faults_at new.faults_at  -- of the calls at each site
-  pub sink : old.sink_faults ≤ new.sink_faults  -- of the writes
-  pub reads : old.global_reads ≤ new.global_reads  -- how often the global store was read
 
 -- ---- what the writing of its line does
 

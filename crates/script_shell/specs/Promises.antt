@@ -6,7 +6,7 @@ use Rattle.cell_world.specs.Texts.{Text}
 use Rattle.cell_world.specs.Counts.{Rose}
 use Rattle.cell_world.specs.Images.{Image, Trail, image_at, end_of_trail}
 use Rattle.cell_world.specs.Sound.{Sound}
-use Rattle.cell_world.specs.Outside.{Outside, TellsContents, TellsTrail, StoreRoseBy}
+use Rattle.cell_world.specs.Outside.{Outside, TellsContents, TellsTrail, StoreRoseBy, IsLater}
 use Rattle.plain_model.specs.declared.commands.Asked.{Asked}
 use Rattle.plain_model.specs.declared.finish.Reason.TheVariants.{NotBuilt}
 use Rattle.plain_model.specs.declared.finish.RunStatus.{RunStatus}
@@ -18,7 +18,6 @@ use Rattle.plain_model.specs.Written.{EachReply}
 use Rattle.plain_model.specs.Headline.{Causes, has_stopped, is_done, is_store_fault, did_nothing, SoundAtEachMoment, IsLegalHistory, OnlyWhatHappened, InOrder, AllAnswered, StatusCause, ComesByInput, KeepsToStatus, GoesOnFrom, IsLegalByStates}
 use Rattle.script_shell.specs.Scripts.{IsScript, IsFirstFaulty, asked_of}
 use Rattle.script_lang.specs.Sources.{script_limit, IfTold, TookAtMost}
-use Rattle.script_shell.specs.Answering.{IsLater}
 
 -- ---- statuses
 

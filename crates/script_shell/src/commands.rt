@@ -3,21 +3,17 @@ ghost use Rattle.std.specs.Prelude.{◌≡◌, IfOk, IsErrOf, [], nat_le};
 ghost use Rattle.std.specs.FinMap as map;
 ghost use Rattle.cell_world.specs.Counts.{Rose};
 ghost use Rattle.cell_world.specs.Images.{global};
-ghost use Rattle.cell_world.specs.Outside.{IfContents, Commits};
-ghost use Rattle.script_shell.specs.Answering.{AnswersMap, CommitsMap, IsLater};
+ghost use Rattle.cell_world.specs.Outside.{IfContents, Commits, IsLater};
+ghost use Rattle.script_shell.specs.Answering.{AnswersMap, CommitsMap};
+ghost use Rattle.cell_world.specs.declared.limits.TheConstants.{MOST_MAPS};
 
 use crate::answers::Answer;
 use cell_world::cells::{Cell, CellKey, KeyType, MapKind, Site};
 use cell_world::changes::Change;
+use cell_world::limits::MOST_MAPS;
 use cell_world::names::Name;
 use cell_world::outside::{World, WorldError};
 use std::alloc::Global;
-
-/// The global store.
-const GLOBAL: Site = Site(0);
-
-/// The most maps that stand.
-const MOST_MAPS: u32 = 64;
 
 /// The answer to a command of which a call failed.
 fn failed(error: WorldError) -> Answer
@@ -37,7 +33,7 @@ fn stands<W: World>(alloc: Global, world: &mut W, name: Name) -> Result<bool, Wo
     ensures later { IsLater (W.outside world.old) (W.outside world.new) }
     ensures cause { IsErrOf result WorldError.Failed → Rose ((W.outside world.old).faults_at 0) ((W.outside world.new).faults_at 0) }
 {
-    match world.read(alloc, GLOBAL, &CellKey::Map(name)) {
+    match world.read(alloc, Site::GLOBAL, &CellKey::Map(name)) {
         Ok(found) => Ok(found.is_some()),
         Err(error) => Err(error),
     }
@@ -45,14 +41,14 @@ fn stands<W: World>(alloc: Global, world: &mut W, name: Name) -> Result<bool, Wo
 
 /// Whether as many maps stand as may: a scan from the least name finds them.
 fn is_full<W: World>(alloc: Global, world: &mut W) -> Result<bool, WorldError>
-    ensures found { IfOk result (λ full. IfContents (W.outside world.old).told (λ image. full ≡ nat_le 64 (map.len (global image).maps))) }
+    ensures found { IfOk result (λ full. IfContents (W.outside world.old).told (λ image. full ≡ nat_le MOST_MAPS (map.len (global image).maps))) }
     ensures told { (W.outside world.new).told ≡ (W.outside world.old).told }
     ensures later { IsLater (W.outside world.old) (W.outside world.new) }
     ensures cause { IsErrOf result WorldError.Failed → Rose ((W.outside world.old).faults_at 0) ((W.outside world.new).faults_at 0) }
 {
-    let least = Name::read(b"A").unwrap();
-    match world.scan(alloc, GLOBAL, &CellKey::Map(least), MOST_MAPS) {
-        Ok(found) => Ok(found.len() >= MOST_MAPS as usize),
+    let least = Name::least();
+    match world.scan(alloc, Site::GLOBAL, &CellKey::Map(least), MOST_MAPS as u32) {
+        Ok(found) => Ok(found.len() >= MOST_MAPS),
         Err(error) => Err(error),
     }
 }
@@ -68,7 +64,7 @@ fn put_map<W: World>(alloc: Global, world: &mut W, name: Name) -> Answer
     if change.put(cell).is_err() {
         return Answer::Memory;
     }
-    match world.commit(alloc, GLOBAL, &change) {
+    match world.commit(alloc, Site::GLOBAL, &change) {
         Ok(()) => Answer::Ok,
         Err(error) => failed(error),
     }

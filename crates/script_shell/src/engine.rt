@@ -1,7 +1,8 @@
 //! The core: a world and the history of what was asked of it. One call is one command.
 ghost use Rattle.std.specs.Prelude.{◌≡◌};
 ghost use Rattle.cell_world.specs.Counts.{Rose};
-ghost use Rattle.script_shell.specs.Answering.{IsLater, WritesLine};
+ghost use Rattle.cell_world.specs.Outside.{IsLater};
+ghost use Rattle.script_shell.specs.Answering.{WritesLine};
 ghost use Rattle.script_shell.specs.Going.{Asks, KeepsContents};
 
 use crate::answers::{Answer, Outcome};
