@@ -69,8 +69,5 @@ pub fn write_key(alloc: Global, key: &Key) -> Result<Vec<u8>, Memory>
     ensures again { IfOk result (λ text. normal_of (type_of key.now) text.items ≡ Some (form_of key.now)) }
 {
     let _kind = key.kind();
-    match text_of(alloc, key) {
-        Ok(text) => Ok(text),
-        Err(_) => Err(Memory),
-    }
+    Ok(text_of(alloc, key)?)
 }

@@ -36,9 +36,7 @@ fn add(line: &mut Vec<u8>, bytes: &[u8]) -> Result<(), Memory>
 fn add_number(alloc: Global, line: &mut Vec<u8>, number: u32) -> Result<(), Memory>
     ensures { OnOk result (line.new.items ≡ line.old.items ++ decimal number) }
 {
-    let Ok(text) = format!(in alloc; "{number}") else {
-        return Err(Memory);
-    };
+    let text = format!(in alloc; "{number}")?;
     add(line, text.as_bytes())
 }
 
