@@ -76,13 +76,6 @@ pub record Same (old new : Outside) : Type 0 where
   pub faults : NeverFall old.faults_at new.faults_at
   pub sink : old.sink_faults ≤ new.sink_faults
 
--- The same world later: its locations are the same, and no count fell.
-pub record IsLater (old new : Outside) : Type 0 where
-  pub locations : new.locations ≡ old.locations  -- it knows the same ones, in the same order
-  pub faults : NeverFall old.faults_at new.faults_at  -- of the calls at each site
-  pub sink : old.sink_faults ≤ new.sink_faults  -- of the writes
-  pub reads : old.global_reads ≤ new.global_reads  -- how often the global store was read
-
 -- a read of site 0 is counted
 abbrev pub read_at : Outside → Site → Outside
 read_at o site = if site.0 == 0 then record o { global_reads = one_more o.global_reads } else o
