@@ -1,5 +1,5 @@
 -- The comparisons that the program derives are exact.
-use Rattle.std.specs.Prelude.{◌≡◌, ◌↔◌, Bool, true, false, ◌&&◌, Some, None, IsTrue, nat_eq, refl}
+use Rattle.std.specs.Prelude.{◌↔◌, Bool, true, false, ◌&&◌, Some, None, IsTrue, nat_eq, refl}
 use Rattle.std.specs.Option.{option_eq}
 use Rattle.std.proofs.Common.{ap, rules, arith}
 use Rattle.cell_world.specs.ByteOrder.{byte_eq}

@@ -1,5 +1,5 @@
 -- Each world is the same world later, and what is later than a later one is later.
-use Rattle.std.proofs.Common.{◌≤◌, arith, refl, ◌∙◌}
+use Rattle.std.proofs.Common.{arith, refl, ◌∙◌}
 use Rattle.cell_world.specs.Outside.{Outside, IsLater}
 
 pub later_same : (o : Outside) → IsLater o o
