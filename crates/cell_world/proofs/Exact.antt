@@ -1,9 +1,13 @@
 -- The comparisons that the program derives are exact.
-use Rattle.std.specs.Prelude.{◌≡◌, ◌↔◌, Bool, true, false, ◌&&◌, Some, None, IsTrue, nat_eq, refl}
+use Rattle.std.specs.Prelude.{◌↔◌, Bool, true, false, ◌&&◌, Some, None, IsTrue, nat_eq, refl}
 use Rattle.std.specs.Option.{option_eq}
 use Rattle.std.proofs.Common.{ap, rules, arith}
 use Rattle.cell_world.specs.ByteOrder.{byte_eq}
+use Rattle.cell_world.specs.Comparing.{IsExact}
 use Rattle.cell_world.specs.declared.operations.Extra.TheVariants as extra
+use Rattle.cell_world.specs.contracts.cells.StatusPartialEq.TheImpl as status
+use Rattle.cell_world.specs.contracts.cells.MarkPartialEq.TheImpl as mark
+use Rattle.cell_world.specs.contracts.cells.LocalRowPartialEq.TheImpl as local
 use Rattle.cell_world.specs.contracts.spans.HighPartialEq.TheImpl as high
 use Rattle.cell_world.specs.contracts.spans.SpanPartialEq.TheImpl as span
 use Rattle.cell_world.specs.contracts.operations.PiecePartialEq.TheImpl as piece
@@ -12,10 +16,6 @@ use Rattle.cell_world.specs.contracts.operations.PhasePartialEq.TheImpl as phase
 use Rattle.cell_world.specs.contracts.operations.JobRowPartialEq.TheImpl as job
 use Rattle.cell_world.specs.contracts.operations.ExtraPartialEq.TheImpl as some_extra
 use Rattle.cell_world.specs.contracts.operations.OpPartialEq.TheImpl as op
-
--- The comparison finds exactly the same value equal.
-abbrev pub IsExact : {T : Type 0} → (T → T → Bool) → Type 0
-IsExact {T} same = (x y : T) → IsTrue (same x y) ↔ x ≡ y
 
 -- two fields, or one and the rest
 joined : {p q : Bool} {A B : Type 0} → (IsTrue p ↔ A) → (IsTrue q ↔ B) → IsTrue (p && q) ↔ (A × B)
@@ -38,8 +38,20 @@ spans x y = search rules
 phases : IsExact phase.ghosts.eq
 phases x y = search rules
 
-each_piece : IsExact piece.ghosts.eq
+pub each_piece : IsExact piece.ghosts.eq
 each_piece x y = search rules
+
+statuses : IsExact status.ghosts.eq
+statuses x y = search rules
+
+marks : IsExact mark.ghosts.eq
+marks x y = search rules
+
+-- local rows
+pub each_local_row : IsExact local.ghosts.eq
+each_local_row x y =
+    let parts = joined (texts x.map y.map) (joined (spans x.span y.span) (joined (numbers x.number y.number) (joined (statuses x.status y.status) (marks x.mark y.mark)))) in
+    (λ h. let p = parts.0 h in λ i. record { map = p.0 i; span = p.1.0 i; number = p.1.1.0 i; status = p.1.1.1.0 i; mark = p.1.1.1.1 i }, λ e. parts.1 (ap (λ z. z.map) e, (ap (λ z. z.span) e, (ap (λ z. z.number) e, (ap (λ z. z.status) e, ap (λ z. z.mark) e)))))
 
 options : {T : Type 0} (same : T → T → Bool) → IsExact same → IsExact (option_eq same)
 options same exact None None = (λ h. refl, λ e. refl)

@@ -35,11 +35,11 @@ module _ {K X : Type 0} {R : K → K → Ordering} (o : IsTotalOrder R) (f : X �
       (λ e. subst (λ x. IfSome x (λ w. f w ≡ k)) (sym e) (h k))
       (get-insert_cases o same m (f v) v k)
 
-  pub keyed-remove : (m : FinMap R X) (k : K) → Keyed m → Keyed (map.remove m k)
-  keyed-remove m k h q = ⊎_elim
-      (λ e. subst (λ x. IfSome x (λ w. f w ≡ q)) (sym e) tt)
+  pub keyed-remove : IsAntisymmetric R → (m : FinMap R X) (k : K) → Keyed m → Keyed (map.remove m k)
+  keyed-remove same m k h q = ⊎_elim
+      (λ c. subst (λ x. IfSome x (λ w. f w ≡ q)) (sym c.1) tt)
       (λ e. subst (λ x. IfSome x (λ w. f w ≡ q)) (sym e) (h q))
-      (get-remove_cases o m k q)
+      (get-remove_cases o same m k q)
 
   pub keyed-empty : Keyed map.empty
   keyed-empty k = subst (λ x. IfSome x (λ w. f w ≡ k)) (sym (map.get-empty R k)) tt
@@ -71,12 +71,12 @@ pub keyed_delete : (s : Store) (k : CellKey) → IsKeyed s → IsKeyed (delete s
 keyed_delete s (at.Map name) h = record { mappings = h.mappings; log = h.log; jobs = h.jobs; locals = h.locals }
 keyed_delete s (at.Shard name location) h = record { mappings = h.mappings; log = h.log; jobs = h.jobs; locals = h.locals }
 keyed_delete s (at.Table name table) h = record { mappings = h.mappings; log = h.log; jobs = h.jobs; locals = h.locals }
-keyed_delete s (at.Piece name low) h = record { mappings = keyed-remove pairs_total piece_key s.mappings (name, low) h.mappings; log = h.log; jobs = h.jobs; locals = h.locals }
-keyed_delete s (at.Log number) h = record { mappings = h.mappings; log = keyed-remove nat_cmp_total op_number s.log number h.log; jobs = h.jobs; locals = h.locals }
-keyed_delete s (at.Job number) h = record { mappings = h.mappings; log = h.log; jobs = keyed-remove nat_cmp_total job_number s.jobs number h.jobs; locals = h.locals }
+keyed_delete s (at.Piece name low) h = record { mappings = keyed-remove pairs_total piece_key exact_text_pairs s.mappings (name, low) h.mappings; log = h.log; jobs = h.jobs; locals = h.locals }
+keyed_delete s (at.Log number) h = record { mappings = h.mappings; log = keyed-remove nat_cmp_total op_number exact_unsigned s.log number h.log; jobs = h.jobs; locals = h.locals }
+keyed_delete s (at.Job number) h = record { mappings = h.mappings; log = h.log; jobs = keyed-remove nat_cmp_total job_number exact_unsigned s.jobs number h.jobs; locals = h.locals }
 keyed_delete s at.Counter h = record { mappings = h.mappings; log = h.log; jobs = h.jobs; locals = h.locals }
 keyed_delete s (at.SiteState location) h = record { mappings = h.mappings; log = h.log; jobs = h.jobs; locals = h.locals }
-keyed_delete s (at.Local name low number) h = record { mappings = h.mappings; log = h.log; jobs = h.jobs; locals = keyed-remove locals_total local_key s.locals (name, (low, number)) h.locals }
+keyed_delete s (at.Local name low number) h = record { mappings = h.mappings; log = h.log; jobs = h.jobs; locals = keyed-remove locals_total local_key exact_locals s.locals (name, (low, number)) h.locals }
 keyed_delete s (at.Row row) h = record { mappings = h.mappings; log = h.log; jobs = h.jobs; locals = h.locals }
 
 pub keyed_edited : (s : Store) (edit : Edit) → IsKeyed s → IsKeyed (edited s edit)
@@ -169,9 +169,9 @@ put_cases s c k = inr refl
 -- what stands after a delete stood there
 delete_cases : (s : Store) (k q : CellKey) → (cell_at (delete s k) q ≡ None) ⊎ (cell_at (delete s k) q ≡ cell_at s q)
 delete_cases s (at.Map name) (at.Map q) = ⊎_elim
-    (λ e. inl (ap (option_map (λ v. cell.Map q v.0 v.1)) e))
+    (λ c. inl (ap (option_map (λ v. cell.Map q v.0 v.1)) c.1))
     (λ e. inr (ap (option_map (λ v. cell.Map q v.0 v.1)) e))
-    (get-remove_cases nat_list_cmp_total s.maps name q)
+    (get-remove_cases nat_list_cmp_total exact_texts s.maps name q)
 delete_cases s (at.Shard name location) (at.Shard q l) = ⊎_elim
     (λ e. inl (ap (λ b. cond b (Some (cell.Shard q l)) None) e))
     (λ e. inr (ap (λ b. cond b (Some (cell.Shard q l)) None) e))
@@ -181,30 +181,30 @@ delete_cases s (at.Table name table) (at.Table q t) = ⊎_elim
     (λ e. inr (ap (λ b. cond b (Some (cell.Table q t)) None) e))
     (contains-remove_cases pairs_total s.tables (name, table) (q, t))
 delete_cases s (at.Piece name low) (at.Piece q l) = ⊎_elim
-    (λ e. inl (ap (option_map cell.Piece) e))
+    (λ c. inl (ap (option_map cell.Piece) c.1))
     (λ e. inr (ap (option_map cell.Piece) e))
-    (get-remove_cases pairs_total s.mappings (name, low) (q, l))
+    (get-remove_cases pairs_total exact_text_pairs s.mappings (name, low) (q, l))
 delete_cases s (at.Log number) (at.Log q) = ⊎_elim
-    (λ e. inl (ap (option_map cell.Log) e))
+    (λ c. inl (ap (option_map cell.Log) c.1))
     (λ e. inr (ap (option_map cell.Log) e))
-    (get-remove_cases nat_cmp_total s.log number q)
+    (get-remove_cases nat_cmp_total exact_unsigned s.log number q)
 delete_cases s (at.Job number) (at.Job q) = ⊎_elim
-    (λ e. inl (ap (option_map cell.Job) e))
+    (λ c. inl (ap (option_map cell.Job) c.1))
     (λ e. inr (ap (option_map cell.Job) e))
-    (get-remove_cases nat_cmp_total s.jobs number q)
+    (get-remove_cases nat_cmp_total exact_unsigned s.jobs number q)
 delete_cases s at.Counter at.Counter = inl refl
 delete_cases s (at.SiteState location) (at.SiteState q) = ⊎_elim
-    (λ e. inl (ap (option_map (cell.SiteState q)) e))
+    (λ c. inl (ap (option_map (cell.SiteState q)) c.1))
     (λ e. inr (ap (option_map (cell.SiteState q)) e))
-    (get-remove_cases nat_list_cmp_total s.away location q)
+    (get-remove_cases nat_list_cmp_total exact_texts s.away location q)
 delete_cases s (at.Local name low number) (at.Local q l n) = ⊎_elim
-    (λ e. inl (ap (option_map cell.Local) e))
+    (λ c. inl (ap (option_map cell.Local) c.1))
     (λ e. inr (ap (option_map cell.Local) e))
-    (get-remove_cases locals_total s.locals (name, (low, number)) (q, (l, n)))
+    (get-remove_cases locals_total exact_locals s.locals (name, (low, number)) (q, (l, n)))
 delete_cases s (at.Row row) (at.Row q) = ⊎_elim
-    (λ e. inl (ap (option_map (cell.Row q)) e))
+    (λ c. inl (ap (option_map (cell.Row q)) c.1))
     (λ e. inr (ap (option_map (cell.Row q)) e))
-    (get-remove_cases rows_total s.rows row q)
+    (get-remove_cases rows_total exact_rows s.rows row q)
 delete_cases s k q = inr refl
 
 pub stands_put : (s : Store) (c d : Cell) → Stands (put s c) d → (c ≡ d) ⊎ Stands s d

@@ -39,12 +39,12 @@ module _ {K X : Type 0} {R : K → K → Ordering} (o : IsTotalOrder R) where
       by true t = inl (tied_is same q k t, map.get-insert o m k v q ∙ ap (λ b. cond b (Some v) (map.get m q)) t)
       by false t = inr (map.get-insert o m k v q ∙ ap (λ b. cond b (Some v) (map.get m q)) t)
 
-  -- after a remove a key has nothing, or what it had
-  pub get-remove_cases : (m : FinMap R X) (k q : K) → (map.get (map.remove m k) q ≡ None) ⊎ (map.get (map.remove m k) q ≡ map.get m q)
-  get-remove_cases m k q = by (eq_by_cmp R q k) refl
+  -- after a remove a key is the removed one, which has nothing, or has what it had
+  pub get-remove_cases : IsAntisymmetric R → (m : FinMap R X) (k q : K) → ((q ≡ k) × (map.get (map.remove m k) q ≡ None)) ⊎ (map.get (map.remove m k) q ≡ map.get m q)
+  get-remove_cases same m k q = by (eq_by_cmp R q k) refl
     where
-      by : (b : Bool) → eq_by_cmp R q k ≡ b → (map.get (map.remove m k) q ≡ None) ⊎ (map.get (map.remove m k) q ≡ map.get m q)
-      by true t = inl (map.get-remove o m k q ∙ ap (λ b. cond b None (map.get m q)) t)
+      by : (b : Bool) → eq_by_cmp R q k ≡ b → ((q ≡ k) × (map.get (map.remove m k) q ≡ None)) ⊎ (map.get (map.remove m k) q ≡ map.get m q)
+      by true t = inl (tied_is same q k t, map.get-remove o m k q ∙ ap (λ b. cond b None (map.get m q)) t)
       by false t = inr (map.get-remove o m k q ∙ ap (λ b. cond b None (map.get m q)) t)
 
 module _ {K : Type 0} {R : K → K → Ordering} (o : IsTotalOrder R) where

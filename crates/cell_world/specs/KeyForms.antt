@@ -8,6 +8,7 @@ use Rattle.cell_world.specs.declared.cells.KeyType.{KeyType}
 use Rattle.cell_world.specs.declared.cells.KeyType.TheVariants.{Int, Long, Guid, Bytes, Datetime, Timespan}
 use Rattle.cell_world.specs.declared.cells.MapKind.{MapKind}
 use Rattle.cell_world.specs.declared.cells.MapKind.TheVariants as kind
+use Rattle.cell_world.specs.declared.limits.TheConstants.{KEY_BYTES}
 use Rattle.cell_world.specs.declared.spans.High.{High}
 use Rattle.cell_world.specs.declared.spans.High.TheVariants.{At, Max}
 use Rattle.cell_world.specs.declared.spans.Span.{Span}
@@ -31,7 +32,7 @@ is_normal Long key = are_bytes key && (length key == 8)
 is_normal Timespan key = are_bytes key && (length key == 8)
 is_normal Datetime key = are_bytes key && ((length key == 8) && nat_le (from_be_bytes w64 key) last_tick)
 is_normal Guid key = are_bytes key && (length key == 16)
-is_normal Bytes key = are_bytes key && (nat_le (length key) 128 && not (last_is_zero key))
+is_normal Bytes key = are_bytes key && (nat_le (length key) KEY_BYTES && not (last_is_zero key))
 
 abbrev pub is_normal_end : KeyType → High → Bool
 is_normal_end type (At key) = is_normal type key
@@ -98,7 +99,7 @@ after_0x bs = None
 
 -- at most 128 bytes as written
 abbrev pub bytes_form : Text → Option Text
-bytes_form text = option_and_then (λ bytes. if nat_le (length bytes) 128 then Some (without_zeros bytes) else None) (option_and_then hex_bytes (after_0x text))
+bytes_form text = option_and_then (λ bytes. if nat_le (length bytes) KEY_BYTES then Some (without_zeros bytes) else None) (option_and_then hex_bytes (after_0x text))
 
 -- ---- guids as they are written: 8, 4, 4, 4 and 12 digits with `-` between
 

@@ -1,4 +1,5 @@
 pub mod ByteOrder
+pub mod Comparing
 pub mod Counts
 pub mod Finding
 pub mod Fixed

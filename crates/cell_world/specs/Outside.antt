@@ -8,6 +8,7 @@ use Rattle.cell_world.specs.Images.{Image, Place, Global, Shard, Happening, Comm
 use Rattle.cell_world.specs.Counts.{last_count, one_more, Rose, StoreRose, NeverFall}
 use Rattle.cell_world.specs.declared.cells.Site.{Site}
 use Rattle.cell_world.specs.declared.changes.Edit.{Edit}
+use Rattle.cell_world.specs.declared.limits.TheConstants.{MOST_LOCATIONS}
 use Rattle.cell_world.specs.declared.outside.WorldError.{WorldError}
 use Rattle.cell_world.specs.declared.outside.WorldError.TheVariants.{Failed, Memory}
 
@@ -135,9 +136,9 @@ IsOver locations (TellsTrail trail) = trail.start.locations ≡ locations
 pub record IsWorld (o : Outside) : Type 0 where
   -- each location is one by its grammar
   pub spelled : AllByRecursion (λ location. IsTrue (is_location location)) o.locations
-  -- they are distinct, and at most 64
+  -- they are distinct, and not too many
   pub distinct : IsDistinct same o.locations
-  pub few : length o.locations ≤ 64
+  pub few : length o.locations ≤ MOST_LOCATIONS
   -- each count is kept in 64 bits
   pub faults : (site : ℕ) → o.faults_at site ≤ last_count
   pub sink : o.sink_faults ≤ last_count

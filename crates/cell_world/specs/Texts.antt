@@ -1,6 +1,7 @@
 -- The grammars of names, of locations and of keys as they are written.
 use Rattle.std.specs.Prelude.{ℕ, Bool, false, not, ◌&&◌, ◌||◌, nat_lt, nat_le, ◌==◌, List, [], ◌∷◌, length}
 use Rattle.std.specs.List.{list_all, before_first, after_first}
+use Rattle.cell_world.specs.declared.limits.TheConstants.{NAME_BYTES, PART_BYTES, KEY_TEXT_BYTES, KEY_BYTES, ROW_BYTES}
 
 -- a byte list: a name, a location, a key or a row's value
 abbrev pub Text : Type 0
@@ -21,7 +22,7 @@ is_name_byte c = is_letter c || (is_digit c || c == 95)
 -- a name: a letter first, at most 32 bytes in all
 abbrev pub is_name : Text → Bool
 is_name [] = false
-is_name (c ∷ cs) = is_letter c && (nat_lt (length cs) 32 && list_all is_name_byte cs)
+is_name (c ∷ cs) = is_letter c && (nat_lt (length cs) NAME_BYTES && list_all is_name_byte cs)
 
 -- a letter, a digit, `_`, `-` or `.`
 abbrev pub is_part_byte : ℕ → Bool
@@ -30,7 +31,7 @@ is_part_byte c = is_letter c || (is_digit c || (c == 95 || (c == 45 || c == 46))
 -- a server or a database: a letter or a digit first, at most 64 bytes in all
 abbrev pub is_part : Text → Bool
 is_part [] = false
-is_part (c ∷ cs) = (is_letter c || is_digit c) && (nat_lt (length cs) 64 && list_all is_part_byte cs)
+is_part (c ∷ cs) = (is_letter c || is_digit c) && (nat_lt (length cs) PART_BYTES && list_all is_part_byte cs)
 
 abbrev pub is_slash : ℕ → Bool
 is_slash c = c == 47
@@ -45,7 +46,7 @@ is_key_text_byte c = nat_le 33 c && nat_le c 126
 
 -- a key as it is written: 1 to 300 bytes
 abbrev pub is_key_text : Text → Bool
-is_key_text xs = not (length xs == 0) && (nat_le (length xs) 300 && list_all is_key_text_byte xs)
+is_key_text xs = not (length xs == 0) && (nat_le (length xs) KEY_TEXT_BYTES && list_all is_key_text_byte xs)
 
 -- the numbers are bytes
 abbrev pub are_bytes : Text → Bool
@@ -53,8 +54,8 @@ are_bytes = list_all (λ b. nat_lt b 256)
 
 -- a key: at most 128 bytes
 abbrev pub is_key_form : Text → Bool
-is_key_form xs = are_bytes xs && nat_le (length xs) 128
+is_key_form xs = are_bytes xs && nat_le (length xs) KEY_BYTES
 
 -- the value of a row: at most 1,024 bytes
 abbrev pub is_row_value : Text → Bool
-is_row_value xs = are_bytes xs && nat_le (length xs) 1024
+is_row_value xs = are_bytes xs && nat_le (length xs) ROW_BYTES

@@ -1,5 +1,4 @@
 //! What the stores hold: ten kinds of cells, and the keys under which they stand.
-ghost use Rattle.cell_world.specs.Spelled.{IsToken, IsMarkValue, IsLocalRow, IsRowName, AreCounters, IsTypedKey, IsTyped};
 
 use crate::items::RowBytes;
 use crate::locations::Location;
@@ -9,7 +8,7 @@ use crate::operations::{JobRow, Op, Piece};
 use crate::spans::Span;
 
 /// The type of a map's keys.
-#[derive(Clone, Copy, Debug, PartialEq, Eq)]
+#[derive(Clone, Copy, PartialEq, Eq)]
 pub enum KeyType {
     /// 32 bits, signed.
     Int,
@@ -26,14 +25,14 @@ pub enum KeyType {
 }
 
 /// A range map binds ranges of keys to shards, a list map single keys.
-#[derive(Clone, Copy, Debug, PartialEq, Eq)]
+#[derive(Clone, Copy, PartialEq, Eq)]
 pub enum MapKind {
     Range,
     List,
 }
 
 /// An offline mapping refuses connections.
-#[derive(Clone, Copy, Debug, PartialEq, Eq)]
+#[derive(Clone, Copy, PartialEq, Eq)]
 pub enum Status {
     Offline,
     Online,
@@ -43,21 +42,17 @@ pub enum Status {
 #[derive(Clone, Copy, PartialEq, Eq)]
 pub struct Token(pub u128);
 
-impl Token {
-    /// Tells what is true of each value of the type. Does nothing.
-    pub fn known(&self)
-        ensures { IsToken self.now }
-    {
-        let _number = self.0;
-    }
-}
-
 /// A store: 0 is the global one, and the n-th location, counted from 1, has store n.
 #[derive(Clone, Copy, PartialEq, Eq)]
 pub struct Site(pub u16);
 
+impl Site {
+    /// The global store.
+    pub const GLOBAL: Site = Site(0);
+}
+
 /// Whether a shard takes part: a detached one isn't read or written, a suspect one is compared first.
-#[derive(Clone, Copy, Debug, PartialEq, Eq)]
+#[derive(Clone, Copy, PartialEq, Eq)]
 pub enum SiteState {
     Attached,
     Detached,
@@ -65,14 +60,14 @@ pub enum SiteState {
 }
 
 /// A site state that has a cell. A site without one is attached.
-#[derive(Clone, Copy, Debug, PartialEq, Eq)]
+#[derive(Clone, Copy, PartialEq, Eq)]
 pub enum Away {
     Detached,
     Suspect,
 }
 
 /// How far an operation has come at a local row.
-#[derive(Clone, Copy, Debug, PartialEq, Eq)]
+#[derive(Clone, Copy, PartialEq, Eq)]
 pub enum Mark {
     /// No operation is under way here.
     Plain,
@@ -82,34 +77,13 @@ pub enum Mark {
     New,
 }
 
-impl Mark {
-    /// Tells what is true of each value of the type. Does nothing.
-    pub fn known(&self)
-        ensures { IsMarkValue self.now }
-    {
-        if let Mark::Old(number) = self {
-            let _number = *number;
-        }
-    }
-}
-
 /// The next numbers that are given.
-#[derive(Clone, Copy, Debug, PartialEq, Eq)]
+#[derive(Clone, Copy, PartialEq, Eq)]
 pub struct Counters {
     /// To an operation, from 1 to 2^63.
     pub operation: u64,
     /// To a job, from 1.
     pub job: u32,
-}
-
-impl Counters {
-    /// Tells what is true of each value of the type. Does nothing.
-    pub fn known(&self)
-        ensures { AreCounters self.now }
-    {
-        let _operation = self.operation;
-        let _job = self.job;
-    }
 }
 
 /// A shard's own copy of a mapping at it.
@@ -125,18 +99,6 @@ pub struct LocalRow {
     pub mark: Mark,
 }
 
-impl LocalRow {
-    /// Tells what is true of each value of the type. Does nothing.
-    pub fn known(&self)
-        ensures { IsLocalRow self.now }
-    {
-        let _number = self.number;
-        self.map.known();
-        self.span.known();
-        self.mark.known();
-    }
-}
-
 /// What names a row of a sharded table. Rows are ordered by these fields, in their order.
 #[derive(Clone, Copy, PartialEq, Eq, PartialOrd, Ord)]
 pub struct RowName {
@@ -146,18 +108,6 @@ pub struct RowName {
     pub table: Name,
     /// Which of the rows of this key in this table.
     pub number: u64,
-}
-
-impl RowName {
-    /// Tells what is true of each value of the type. Does nothing.
-    pub fn known(&self)
-        ensures { IsRowName self.now }
-    {
-        let _number = self.number;
-        self.map.known();
-        self.key.known();
-        self.table.known();
-    }
 }
 
 /// What a cell stands under. Keys are ordered by the kind, as listed here, and then by the fields in their order.
@@ -181,43 +131,6 @@ pub enum CellKey {
     Row(RowName),
 }
 
-impl CellKey {
-    /// Tells what is true of each value of the type. Does nothing.
-    pub fn known(&self)
-        ensures { IsTypedKey self.now }
-    {
-        match self {
-            CellKey::Map(name) => name.known(),
-            CellKey::Shard(name, location) => {
-                name.known();
-                location.known();
-            }
-            CellKey::Table(name, table) => {
-                name.known();
-                table.known();
-            }
-            CellKey::Piece(name, low) => {
-                name.known();
-                low.known();
-            }
-            CellKey::Log(number) => {
-                let _number = *number;
-            }
-            CellKey::Job(number) => {
-                let _number = *number;
-            }
-            CellKey::Counter => {}
-            CellKey::SiteState(location) => location.known(),
-            CellKey::Local(name, low, number) => {
-                let _number = *number;
-                name.known();
-                low.known();
-            }
-            CellKey::Row(row) => row.known(),
-        }
-    }
-}
-
 /// What a store holds under a key. All kinds but the last two stand in the global store, those two at shards.
 #[derive(Drop)]
 pub enum Cell {
@@ -236,33 +149,4 @@ pub enum Cell {
     SiteState(Location, Away),
     Local(LocalRow),
     Row(RowName, RowBytes),
-}
-
-impl Cell {
-    /// Tells what is true of each value of the type. Does nothing.
-    pub fn known(&self)
-        ensures { IsTyped self.now }
-    {
-        match self {
-            Cell::Map(name, _, _) => name.known(),
-            Cell::Shard(name, location) => {
-                name.known();
-                location.known();
-            }
-            Cell::Table(name, table) => {
-                name.known();
-                table.known();
-            }
-            Cell::Piece(piece) => piece.known(),
-            Cell::Log(op) => op.known(),
-            Cell::Job(job) => job.known(),
-            Cell::Counter(counters) => counters.known(),
-            Cell::SiteState(location, _) => location.known(),
-            Cell::Local(row) => row.known(),
-            Cell::Row(row, bytes) => {
-                row.known();
-                bytes.known();
-            }
-        }
-    }
 }

@@ -3,7 +3,7 @@ ghost use Rattle.std.specs.Prelude.{◌≡◌, [], ◌∷◌, ◌++◌, OnOk, On
 ghost use Rattle.cell_world.specs.Spelled.{is_spelled, AreEdits};
 
 use crate::cells::{Cell, CellKey};
-use crate::items::Memory;
+use crate::memory::Memory;
 use std::alloc::Global;
 use std::marker::Model;
 
@@ -54,9 +54,7 @@ impl Change {
         ensures err { OnErr result (self.new ≡ self.old) }
     {
         cell.known();
-        if self.edits.push(Edit::Put(cell)).is_err() {
-            return Err(Memory);
-        }
+        self.edits.push(Edit::Put(cell))?;
         Ok(())
     }
 
@@ -66,9 +64,7 @@ impl Change {
         ensures err { OnErr result (self.new ≡ self.old) }
     {
         key.known();
-        if self.edits.push(Edit::Delete(key)).is_err() {
-            return Err(Memory);
-        }
+        self.edits.push(Edit::Delete(key))?;
         Ok(())
     }
 

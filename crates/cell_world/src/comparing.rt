@@ -1,203 +1,79 @@
-//! Laws of comparison: equal values are the same value, texts stand in byte order and cell keys in cell order.
-ghost use Rattle.std.specs.Prelude.{◌≡◌, ◌↔◌, IsTrue};
+//! Laws of comparison, as contracts of functions that do nothing.
+ghost use Rattle.std.specs.Prelude.{◌≡◌};
 ghost use Rattle.cell_world.specs.ByteOrder.{byte_cmp};
-ghost use Rattle.cell_world.specs.Finding.{cell_cmp};
+ghost use Rattle.cell_world.specs.Comparing.{IsExact};
+ghost use Rattle.cell_world.specs.Orders.{cell_cmp};
+ghost use Rattle.cell_world.specs.Texts.{Text};
+ghost use Rattle.cell_world.specs.contracts.names.NamePartialEq.TheImpl as name;
+ghost use Rattle.cell_world.specs.contracts.locations.LocationPartialEq.TheImpl as location;
+ghost use Rattle.cell_world.specs.contracts.key_texts.KeyTextPartialEq.TheImpl as key_text;
+ghost use Rattle.cell_world.specs.contracts.norm_keys.NormKeyPartialEq.TheImpl as norm_key;
+ghost use Rattle.cell_world.specs.contracts.spans.HighPartialEq.TheImpl as high;
+ghost use Rattle.cell_world.specs.contracts.spans.SpanPartialEq.TheImpl as span;
+ghost use Rattle.cell_world.specs.contracts.cells.KeyTypePartialEq.TheImpl as key_type;
+ghost use Rattle.cell_world.specs.contracts.cells.MapKindPartialEq.TheImpl as map_kind;
+ghost use Rattle.cell_world.specs.contracts.cells.StatusPartialEq.TheImpl as status;
+ghost use Rattle.cell_world.specs.contracts.cells.TokenPartialEq.TheImpl as token;
+ghost use Rattle.cell_world.specs.contracts.cells.SitePartialEq.TheImpl as site;
+ghost use Rattle.cell_world.specs.contracts.cells.SiteStatePartialEq.TheImpl as site_state;
+ghost use Rattle.cell_world.specs.contracts.cells.AwayPartialEq.TheImpl as away;
+ghost use Rattle.cell_world.specs.contracts.cells.MarkPartialEq.TheImpl as mark;
+ghost use Rattle.cell_world.specs.contracts.cells.CountersPartialEq.TheImpl as counters;
+ghost use Rattle.cell_world.specs.contracts.cells.LocalRowPartialEq.TheImpl as local_row;
+ghost use Rattle.cell_world.specs.contracts.cells.RowNamePartialEq.TheImpl as row_name;
+ghost use Rattle.cell_world.specs.contracts.cells.CellKeyPartialEq.TheImpl as cell_key;
+ghost use Rattle.cell_world.specs.contracts.operations.PiecePartialEq.TheImpl as piece;
+ghost use Rattle.cell_world.specs.contracts.operations.PiecesPartialEq.TheImpl as pieces;
+ghost use Rattle.cell_world.specs.contracts.operations.PhasePartialEq.TheImpl as phase;
+ghost use Rattle.cell_world.specs.contracts.operations.JobRowPartialEq.TheImpl as job;
+ghost use Rattle.cell_world.specs.contracts.operations.ExtraPartialEq.TheImpl as extra;
+ghost use Rattle.cell_world.specs.contracts.operations.OpPartialEq.TheImpl as op;
+ghost use Rattle.cell_world.specs.contracts.operations.ReachPartialEq.TheImpl as reach;
+ghost use Rattle.cell_world.specs.contracts.operations.StageNamePartialEq.TheImpl as stage;
+ghost use Rattle.cell_world.specs.contracts.names.NameOrd.TheImpl as ordered_name;
+ghost use Rattle.cell_world.specs.contracts.locations.LocationOrd.TheImpl as ordered_location;
+ghost use Rattle.cell_world.specs.contracts.norm_keys.NormKeyOrd.TheImpl as ordered_norm_key;
+ghost use Rattle.cell_world.specs.contracts.cells.CellKeyOrd.TheImpl as ordered_cell_key;
+ghost use Rattle.cell_world.specs.declared.cells.CellKey.{CellKey};
 
-use crate::cells::{
-    Away, CellKey, Counters, KeyType, LocalRow, MapKind, Mark, RowName, Site, SiteState, Status,
-    Token,
-};
-use crate::key_texts::KeyText;
-use crate::locations::Location;
-use crate::names::Name;
-use crate::norm_keys::NormKey;
-use crate::operations::{Extra, JobRow, Op, Phase, Piece, Pieces, Reach, StageName};
-use crate::spans::{High, Span};
-use std::cmp::Ordering;
+/// Two values of a type compare equal exactly where they are the same value.
+pub fn equal_values_are_one()
+    ensures names { IsExact name.ghosts.eq }
+    ensures locations { IsExact location.ghosts.eq }
+    ensures key_texts { IsExact key_text.ghosts.eq }
+    ensures norm_keys { IsExact norm_key.ghosts.eq }
+    ensures ends { IsExact high.ghosts.eq }
+    ensures spans { IsExact span.ghosts.eq }
+    ensures key_types { IsExact key_type.ghosts.eq }
+    ensures map_kinds { IsExact map_kind.ghosts.eq }
+    ensures statuses { IsExact status.ghosts.eq }
+    ensures tokens { IsExact token.ghosts.eq }
+    ensures sites { IsExact site.ghosts.eq }
+    ensures site_states { IsExact site_state.ghosts.eq }
+    ensures away { IsExact away.ghosts.eq }
+    ensures marks { IsExact mark.ghosts.eq }
+    ensures counters { IsExact counters.ghosts.eq }
+    ensures local_rows { IsExact local_row.ghosts.eq }
+    ensures row_names { IsExact row_name.ghosts.eq }
+    ensures cell_keys { IsExact cell_key.ghosts.eq }
+    ensures pieces { IsExact piece.ghosts.eq }
+    ensures some_pieces { IsExact pieces.ghosts.eq }
+    ensures phases { IsExact phase.ghosts.eq }
+    ensures jobs { IsExact job.ghosts.eq }
+    ensures extras { IsExact extra.ghosts.eq }
+    ensures operations { IsExact op.ghosts.eq }
+    ensures reaches { IsExact reach.ghosts.eq }
+    ensures stage_names { IsExact stage.ghosts.eq }
+{}
 
-pub fn name_equals(a: &Name, b: &Name) -> bool
-    ensures { IsTrue result ↔ a.now ≡ b.now }
-{
-    a == b
-}
+/// Texts and keys stand in byte order, a proper prefix first.
+pub fn texts_stand_in_byte_order()
+    ensures names { (a b : Text) → ordered_name.ghosts.cmp a b ≡ byte_cmp a b }
+    ensures locations { (a b : Text) → ordered_location.ghosts.cmp a b ≡ byte_cmp a b }
+    ensures norm_keys { (a b : Text) → ordered_norm_key.ghosts.cmp a b ≡ byte_cmp a b }
+{}
 
-pub fn location_equals(a: &Location, b: &Location) -> bool
-    ensures { IsTrue result ↔ a.now ≡ b.now }
-{
-    a == b
-}
-
-pub fn norm_key_equals(a: &NormKey, b: &NormKey) -> bool
-    ensures { IsTrue result ↔ a.now ≡ b.now }
-{
-    a == b
-}
-
-pub fn key_text_equals(a: &KeyText, b: &KeyText) -> bool
-    ensures { IsTrue result ↔ a.now ≡ b.now }
-{
-    a == b
-}
-
-pub fn token_equals(a: &Token, b: &Token) -> bool
-    ensures { IsTrue result ↔ a.now ≡ b.now }
-{
-    a == b
-}
-
-pub fn site_equals(a: &Site, b: &Site) -> bool
-    ensures { IsTrue result ↔ a.now ≡ b.now }
-{
-    a == b
-}
-
-pub fn key_type_equals(a: &KeyType, b: &KeyType) -> bool
-    ensures { IsTrue result ↔ a.now ≡ b.now }
-{
-    a == b
-}
-
-pub fn map_kind_equals(a: &MapKind, b: &MapKind) -> bool
-    ensures { IsTrue result ↔ a.now ≡ b.now }
-{
-    a == b
-}
-
-pub fn status_equals(a: &Status, b: &Status) -> bool
-    ensures { IsTrue result ↔ a.now ≡ b.now }
-{
-    a == b
-}
-
-pub fn site_state_equals(a: &SiteState, b: &SiteState) -> bool
-    ensures { IsTrue result ↔ a.now ≡ b.now }
-{
-    a == b
-}
-
-pub fn away_equals(a: &Away, b: &Away) -> bool
-    ensures { IsTrue result ↔ a.now ≡ b.now }
-{
-    a == b
-}
-
-pub fn mark_equals(a: &Mark, b: &Mark) -> bool
-    ensures { IsTrue result ↔ a.now ≡ b.now }
-{
-    a == b
-}
-
-pub fn counters_equals(a: &Counters, b: &Counters) -> bool
-    ensures { IsTrue result ↔ a.now ≡ b.now }
-{
-    a == b
-}
-
-pub fn high_equals(a: &High, b: &High) -> bool
-    ensures { IsTrue result ↔ a.now ≡ b.now }
-{
-    a == b
-}
-
-pub fn span_equals(a: &Span, b: &Span) -> bool
-    ensures { IsTrue result ↔ a.now ≡ b.now }
-{
-    a == b
-}
-
-pub fn piece_equals(a: &Piece, b: &Piece) -> bool
-    ensures { IsTrue result ↔ a.now ≡ b.now }
-{
-    a == b
-}
-
-pub fn phase_equals(a: &Phase, b: &Phase) -> bool
-    ensures { IsTrue result ↔ a.now ≡ b.now }
-{
-    a == b
-}
-
-pub fn pieces_equals(a: &Pieces, b: &Pieces) -> bool
-    ensures { IsTrue result ↔ a.now ≡ b.now }
-{
-    a == b
-}
-
-pub fn job_row_equals(a: &JobRow, b: &JobRow) -> bool
-    ensures { IsTrue result ↔ a.now ≡ b.now }
-{
-    a == b
-}
-
-pub fn extra_equals(a: &Extra, b: &Extra) -> bool
-    ensures { IsTrue result ↔ a.now ≡ b.now }
-{
-    a == b
-}
-
-pub fn op_equals(a: &Op, b: &Op) -> bool
-    ensures { IsTrue result ↔ a.now ≡ b.now }
-{
-    a == b
-}
-
-pub fn reach_equals(a: &Reach, b: &Reach) -> bool
-    ensures { IsTrue result ↔ a.now ≡ b.now }
-{
-    a == b
-}
-
-pub fn stage_name_equals(a: &StageName, b: &StageName) -> bool
-    ensures { IsTrue result ↔ a.now ≡ b.now }
-{
-    a == b
-}
-
-pub fn local_row_equals(a: &LocalRow, b: &LocalRow) -> bool
-    ensures { IsTrue result ↔ a.now ≡ b.now }
-{
-    a == b
-}
-
-pub fn row_name_equals(a: &RowName, b: &RowName) -> bool
-    ensures { IsTrue result ↔ a.now ≡ b.now }
-{
-    a == b
-}
-
-pub fn cell_key_equals(a: &CellKey, b: &CellKey) -> bool
-    ensures { IsTrue result ↔ a.now ≡ b.now }
-{
-    a == b
-}
-
-pub fn name_order(a: &Name, b: &Name) -> Ordering
-    ensures { result ≡ byte_cmp a.now b.now }
-{
-    a.cmp(b)
-}
-
-pub fn location_order(a: &Location, b: &Location) -> Ordering
-    ensures { result ≡ byte_cmp a.now b.now }
-{
-    a.cmp(b)
-}
-
-pub fn norm_key_order(a: &NormKey, b: &NormKey) -> Ordering
-    ensures { result ≡ byte_cmp a.now b.now }
-{
-    a.cmp(b)
-}
-
-pub fn key_text_order(a: &KeyText, b: &KeyText) -> Ordering
-    ensures { result ≡ byte_cmp a.now b.now }
-{
-    a.cmp(b)
-}
-
-/// The order of cell keys is cell order.
-pub fn cell_key_order(a: &CellKey, b: &CellKey) -> Ordering
-    ensures { result ≡ cell_cmp a.now b.now }
-{
-    a.cmp(b)
-}
+/// The keys of cells stand in cell order.
+pub fn cell_keys_stand_in_cell_order()
+    ensures { (a b : CellKey) → ordered_cell_key.ghosts.cmp a b ≡ cell_cmp a b }
+{}

@@ -2,15 +2,9 @@
 ghost use Rattle.std.specs.Prelude.{◌≡◌, ◌≤◌, length, IsTrue};
 ghost use Rattle.std.specs.List.{list_all, position};
 ghost use Rattle.cell_world.specs.Texts.{is_letter, is_digit, is_name_byte, is_name, is_part_byte, is_part, is_slash, is_location, is_key_text_byte, is_key_text, are_bytes};
+ghost use Rattle.cell_world.specs.declared.limits.TheConstants.{KEY_TEXT_BYTES, LOCATION_BYTES, NAME_BYTES, PART_BYTES};
 
-/// The longest name, in bytes.
-pub(crate) const NAME_BYTES: usize = 32;
-
-/// The longest server or database of a location, in bytes.
-pub(crate) const PART_BYTES: usize = 64;
-
-/// The longest key text, in bytes.
-pub(crate) const KEY_TEXT_BYTES: usize = 300;
+use crate::limits::{KEY_TEXT_BYTES, NAME_BYTES, PART_BYTES};
 
 fn is_letter(byte: u8) -> bool
     ensures { result ≡ is_letter byte }
@@ -39,7 +33,7 @@ fn all_name_bytes(bytes: &[u8]) -> bool
 /// Whether the bytes are a name.
 pub(crate) fn is_name(bytes: &[u8]) -> bool
     ensures value { result ≡ is_name bytes.now }
-    ensures fits { IsTrue result → length bytes.now ≤ 32 }
+    ensures fits { IsTrue result → length bytes.now ≤ NAME_BYTES }
 {
     match bytes {
         [] => false,
@@ -67,7 +61,7 @@ fn all_part_bytes(bytes: &[u8]) -> bool
 /// Whether the bytes are a server or a database.
 fn is_part(bytes: &[u8]) -> bool
     ensures value { result ≡ is_part bytes.now }
-    ensures fits { IsTrue result → length bytes.now ≤ 64 }
+    ensures fits { IsTrue result → length bytes.now ≤ PART_BYTES }
 {
     match bytes {
         [] => false,
@@ -91,7 +85,7 @@ fn slash_at(bytes: &[u8]) -> Option<usize>
 /// Whether the bytes are a location.
 pub(crate) fn is_location(bytes: &[u8]) -> bool
     ensures value { result ≡ is_location bytes.now }
-    ensures fits { IsTrue result → length bytes.now ≤ 129 }
+    ensures fits { IsTrue result → length bytes.now ≤ LOCATION_BYTES }
 {
     match slash_at(bytes) {
         None => false,
@@ -118,7 +112,7 @@ fn all_key_text_bytes(bytes: &[u8]) -> bool
 /// Whether the bytes are a key as it is written.
 pub(crate) fn is_key_text(bytes: &[u8]) -> bool
     ensures value { result ≡ is_key_text bytes.now }
-    ensures fits { IsTrue result → length bytes.now ≤ 300 }
+    ensures fits { IsTrue result → length bytes.now ≤ KEY_TEXT_BYTES }
 {
     let some = !bytes.is_empty();
     let fits = bytes.len() <= KEY_TEXT_BYTES;

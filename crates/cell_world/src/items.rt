@@ -2,17 +2,13 @@
 ghost use Rattle.std.specs.Prelude.{◌≡◌, ◌≤◌, ◌++◌, ◌∷◌, [], length, IsTrue, IfOk, OnOk, OnErr};
 ghost use Rattle.std.specs.Option.{SomeIff};
 ghost use Rattle.cell_world.specs.Texts.{is_row_value};
+ghost use Rattle.cell_world.specs.declared.limits.TheConstants.{ROW_BYTES};
 
 use crate::grammar::known_bytes;
+use crate::limits::ROW_BYTES;
+use crate::memory::Memory;
 use std::alloc::Global;
 use std::marker::Model;
-
-/// Want of memory.
-#[derive(Clone, Copy, Debug, PartialEq, Eq)]
-pub struct Memory;
-
-/// The most bytes of a row.
-pub const ROW_BYTES: usize = 1024;
 
 /// A list of values. Contracts see the list, and not its room.
 #[derive(Drop)]
@@ -67,9 +63,7 @@ impl<T: Drop> Items<T> {
         ensures ok { OnOk result (self.new ≡ self.old ++ item ∷ []) }
         ensures err { OnErr result (self.new ≡ self.old) }
     {
-        if self.items.push(item).is_err() {
-            return Err(Memory);
-        }
+        self.items.push(item)?;
         Ok(())
     }
 }
@@ -95,7 +89,7 @@ impl Model for RowBytes {
 impl RowBytes {
     /// The row value with these bytes. `None` exactly past 1,024 bytes. Takes no memory.
     pub fn from_vec(items: Vec<u8>) -> Option<RowBytes>
-        ensures { SomeIff result (length items.items ≤ 1024) items.items }
+        ensures { SomeIff result (length items.items ≤ ROW_BYTES) items.items }
     {
         if items.len() > ROW_BYTES {
             return None;
@@ -107,7 +101,7 @@ impl RowBytes {
     /// Its bytes.
     pub fn as_slice(&self) -> &[u8]
         ensures value { result.now ≡ self.now }
-        ensures short { length self.now ≤ 1024 }
+        ensures short { length self.now ≤ ROW_BYTES }
     {
         self.items.as_slice()
     }
@@ -123,9 +117,8 @@ impl RowBytes {
     pub fn copied(&self, alloc: Global) -> Result<RowBytes, Memory>
         ensures { IfOk result (λ copy. copy ≡ self.now) }
     {
-        match Vec::from_slice(alloc, self.items.as_slice()) {
-            Ok(items) => Ok(RowBytes { items }),
-            Err(_) => Err(Memory),
-        }
+        Ok(RowBytes {
+            items: Vec::from_slice(alloc, self.items.as_slice())?,
+        })
     }
 }

@@ -4,16 +4,19 @@
 pub mod cells;
 pub mod changes;
 pub mod comparing;
-mod fixed;
 mod grammar;
 pub mod items;
 pub mod key_texts;
+mod known;
 pub mod laws;
+pub mod limits;
 pub mod locations;
+pub mod memory;
 pub mod names;
 pub mod norm_keys;
 pub mod operations;
 pub mod outside;
+mod padded;
 pub mod spans;
 #[cfg(test)]
 mod tests;

@@ -1,34 +1,30 @@
 //! Names of maps and tables.
-ghost use Rattle.std.specs.Prelude.{◌≡◌, ◌≤◌, length, IsTrue};
+ghost use Rattle.std.specs.Prelude.{◌≡◌, ◌∷◌, [], IsTrue};
 ghost use Rattle.std.specs.Option.{SomeIff};
 ghost use Rattle.cell_world.specs.Texts.{is_name};
 
-use crate::fixed::padded;
 use crate::grammar::is_name;
-use std::cmp::Ordering;
+use crate::limits::NAME_BYTES;
+use crate::padded::Padded;
 use std::marker::Model;
 
 /// The name of a map or a table: a letter, then letters, digits and `_`, at most 32 bytes in all. Upper and lower case differ. Contracts see its bytes.
-#[derive(Clone, Copy)]
+#[derive(Clone, Copy, PartialEq, Eq, PartialOrd, Ord)]
 pub struct Name {
-    len: u8,
-    bytes: [u8; 32],
+    text: Padded<NAME_BYTES>,
 }
 
 impl Model for Name {
-    ghost use Rattle.std.specs.Prelude.{ℕ, List, length, take, replicate, ◌++◌, ◌-◌, ◌≡◌};
-    ghost use Rattle.cell_world.specs.Fixed.{IsPadded, given_back};
+    ghost use Rattle.std.specs.Prelude.{ℕ, List, IsTrue};
     ghost use Rattle.cell_world.specs.Texts.{is_name};
 
     ghost Value = { List ℕ };
 
-    ghost view = { λ t. take t.len t.bytes };
+    ghost view = { λ t. t.text };
 
-    ghost invariant = { λ t. IsPadded 32 is_name t.len t.bytes };
+    ghost invariant = { λ t. IsTrue (is_name t.text) };
 
-    ghost inverse = { λ xs. record { len = length xs; bytes = xs ++ replicate (32 - length xs) 0 } };
-
-    ghost inverse_ok = { λ t h. λ i. record { len = (given_back 32 is_name t.len t.bytes h i).0; bytes = (given_back 32 is_name t.len t.bytes h i).1 } };
+    ghost inverse = { λ xs. record { text = xs } };
 }
 
 impl Name {
@@ -40,8 +36,7 @@ impl Name {
             return None;
         }
         Some(Name {
-            len: bytes.len() as u8,
-            bytes: padded(bytes),
+            text: Padded::of(bytes),
         })
     }
 
@@ -49,60 +44,22 @@ impl Name {
     pub fn as_slice(&self) -> &[u8]
         ensures { result.now ≡ self.now }
     {
-        &self.bytes[..self.len as usize]
+        self.text.as_slice()
     }
 
     /// Tells what is true of each value of the type. Does nothing.
     pub fn known(&self)
         ensures { IsTrue (is_name self.now) }
     {
-        let _len = self.len;
+        let _text = self.text;
     }
-}
 
-impl PartialEq for Name {
-    ghost use Rattle.cell_world.specs.ByteOrder.{byte_eq, byte_eq_alike};
-
-    ghost eq = { byte_eq };
-
-    ghost laws = { byte_eq_alike };
-
-    fn eq(&self, other: &Name) -> bool {
-        self.as_slice() == other.as_slice()
-    }
-}
-
-impl Eq for Name {
-    ghost use Rattle.cell_world.specs.ByteOrder.{byte_eq_laws};
-
-    ghost laws = { byte_eq_laws };
-}
-
-impl PartialOrd for Name {
-    ghost use Rattle.std.specs.Ordering.{as_partial_cmp};
-    ghost use Rattle.cell_world.specs.ByteOrder.{byte_cmp, byte_partial_order};
-
-    ghost partial_cmp = { as_partial_cmp byte_cmp };
-
-    ghost laws = { byte_partial_order };
-
-    fn partial_cmp(&self, other: &Name) -> Option<Ordering> {
-        Some(self.cmp(other))
-    }
-}
-
-impl Ord for Name {
-    ghost use Rattle.cell_world.specs.ByteOrder.{byte_cmp, byte_cmp_total, byte_cmp_agrees, byte_cmp_ties};
-
-    ghost cmp = { byte_cmp };
-
-    ghost total = { byte_cmp_total };
-
-    ghost matches_partial_cmp = { byte_cmp_agrees };
-
-    ghost matches_eq = { byte_cmp_ties };
-
-    fn cmp(&self, other: &Name) -> Ordering {
-        self.as_slice().cmp(other.as_slice())
+    /// The least name: no name comes before it in byte order. Takes no memory.
+    pub fn least() -> Name
+        ensures { result ≡ 65 ∷ [] }
+    {
+        Name {
+            text: Padded::of(b"A"),
+        }
     }
 }

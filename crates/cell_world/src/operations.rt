@@ -1,5 +1,4 @@
 //! Mappings, the long operations that change them, and the jobs that move them.
-ghost use Rattle.std.specs.Prelude.{IfSome};
 ghost use Rattle.cell_world.specs.Spelled.{IsPiece, ArePieces, IsPhase, IsJob, IsExtra, IsOp};
 
 use crate::cells::{Status, Token};
@@ -47,16 +46,12 @@ impl Pieces {
     pub fn known(&self)
         ensures { ArePieces self.now }
     {
-        known_piece(&self.one);
-        known_piece(&self.two);
-    }
-}
-
-fn known_piece(piece: &Option<Piece>)
-    ensures { IfSome piece.now IsPiece }
-{
-    if let Some(piece) = piece {
-        piece.known();
+        if let Some(piece) = &self.one {
+            piece.known();
+        }
+        if let Some(piece) = &self.two {
+            piece.known();
+        }
     }
 }
 
@@ -186,7 +181,7 @@ pub enum Reach {
 }
 
 /// How far a long operation has come.
-#[derive(Clone, Copy, Debug, PartialEq, Eq)]
+#[derive(Clone, Copy, PartialEq, Eq)]
 pub enum StageName {
     /// Its log row is put.
     Logged,

@@ -9,6 +9,7 @@ ghost use Rattle.cell_world.specs.Stores.{cell_at};
 use crate::cells::{Cell, CellKey, Site};
 use crate::changes::Change;
 use crate::locations::Location;
+use crate::memory::Memory;
 use crate::names::Name;
 use crate::norm_keys::NormKey;
 use std::alloc::Global;
@@ -20,6 +21,16 @@ pub enum WorldError {
     Failed,
     /// Want of memory.
     Memory,
+}
+
+impl From<Memory> for WorldError {
+    ghost use Rattle.cell_world.specs.declared.outside.WorldError.TheVariants as error;
+
+    ghost from_gives = { λ _ e. e ≡ error.Memory };
+
+    fn from(_: Memory) -> WorldError {
+        WorldError::Memory
+    }
 }
 
 /// The stores, site 0 for the global one and one for each location, and the output.

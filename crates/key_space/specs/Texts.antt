@@ -5,6 +5,7 @@ use Rattle.cell_world.specs.Texts.{Text}
 use Rattle.cell_world.specs.KeyForms.{number_of, after_0x, hex_bytes, guid_bytes, normal_of}
 use Rattle.cell_world.specs.declared.cells.KeyType.{KeyType}
 use Rattle.cell_world.specs.declared.cells.KeyType.TheVariants.{Int, Long, Guid, Bytes, Datetime, Timespan}
+use Rattle.cell_world.specs.declared.limits.TheConstants.{KEY_BYTES}
 use Rattle.key_space.specs.declared.faults.KeyFault.{KeyFault}
 use Rattle.key_space.specs.declared.faults.KeyFault.TheVariants.{NotInGrammar, OutOfRange, TooLong, Memory}
 
@@ -45,7 +46,7 @@ IsNumber Bytes = ⊥
 -- The fault of a text that is no key of the type. The grammar comes first; of a text in it, either its bytes are too many or its number is none of the type's.
 abbrev pub IsKeyFault : KeyType → Text → KeyFault → Type 0
 IsKeyFault type text (NotInGrammar place) = IsPlace (in_grammar type) text place
-IsKeyFault type text TooLong = (type ≡ Bytes) × ((bytes : Text) × (written_bytes text ≡ Some bytes) × (128 < length bytes))
+IsKeyFault type text TooLong = (type ≡ Bytes) × ((bytes : Text) × (written_bytes text ≡ Some bytes) × (KEY_BYTES < length bytes))
 IsKeyFault type text OutOfRange = IsNumber type × IsTrue (in_grammar type text) × (normal_of type text ≡ None)
 -- reading a key takes no memory
 IsKeyFault type text Memory = ⊥

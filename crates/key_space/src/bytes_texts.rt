@@ -2,15 +2,14 @@
 ghost use Rattle.std.specs.Prelude.{◌≡◌, ◌≤◌, ◌<◌, ◌^◌, length, take, IsTrue, IfOk, IfErr, OnOk, Some, is_some};
 ghost use Rattle.cell_world.specs.KeyForms.{hex_bytes, without_zeros, normal_of};
 ghost use Rattle.cell_world.specs.declared.cells.KeyType.TheVariants as types;
+ghost use Rattle.cell_world.specs.declared.limits.TheConstants.{KEY_BYTES};
 ghost use Rattle.key_space.specs.Texts.{written_bytes, IsAtPlace, IsKeyFault};
 
 use crate::faults::{KeyFault, in_grammar};
 use crate::hex_digits::is_hex;
 use crate::values::{KeyBytes, norm};
+use cell_world::limits::KEY_BYTES;
 use text_scan::machine::Machine;
-
-/// The most bytes of a bytes key, as written.
-const KEY_BYTES: usize = 128;
 
 /// How far the text of a bytes key was read: after an even or an odd number of digits.
 #[derive(Clone, Copy)]
@@ -80,11 +79,11 @@ fn check(text: &[u8]) -> Result<(), KeyFault>
 }
 
 /// The bytes of pairs of digits go to the front of the room; how many they are.
-fn decode(digits: &[u8], room: &mut [u8; 128]) -> usize
+fn decode(digits: &[u8], room: &mut [u8; KEY_BYTES]) -> usize
     requires pairs { IsTrue (is_some (hex_bytes digits.now)) }
     requires fits { length digits.now ≤ 256 }
     ensures bytes { hex_bytes digits.now ≡ Some (take result room.new) }
-    ensures fits { result ≤ 128 }
+    ensures fits { result ≤ KEY_BYTES }
 {
     let count = digits.len() / 2;
     hex::decode_to_slice(digits, &mut room[..count]).unwrap();
@@ -105,7 +104,7 @@ fn without_zeros(bytes: &[u8]) -> &[u8]
 
 /// The key of bytes as written.
 fn key_of_written(bytes: &[u8]) -> KeyBytes
-    requires { length bytes.now ≤ 128 }
+    requires { length bytes.now ≤ KEY_BYTES }
     ensures { result ≡ without_zeros bytes.now }
 {
     let form = norm(without_zeros(bytes));
@@ -124,7 +123,7 @@ pub(crate) fn read_bytes(text: &[u8]) -> Result<KeyBytes, KeyFault>
     if digits.len() > 2 * KEY_BYTES {
         return Err(KeyFault::TooLong);
     }
-    let mut room = [0u8; 128];
+    let mut room = [0u8; KEY_BYTES];
     let count = decode(digits, &mut room);
     Ok(key_of_written(&room[..count]))
 }

@@ -8,7 +8,7 @@ ghost use Rattle.key_space.specs.Printing.{printed_text};
 
 use crate::keys::Key;
 use crate::values::Guid;
-use cell_world::items::Memory;
+use cell_world::memory::Memory;
 use std::alloc::{AllocError, Global};
 use uuid::Uuid;
 
@@ -69,8 +69,5 @@ pub fn write_key(alloc: Global, key: &Key) -> Result<Vec<u8>, Memory>
     ensures again { IfOk result (λ text. normal_of (type_of key.now) text.items ≡ Some (form_of key.now)) }
 {
     let _kind = key.kind();
-    match text_of(alloc, key) {
-        Ok(text) => Ok(text),
-        Err(_) => Err(Memory),
-    }
+    Ok(text_of(alloc, key)?)
 }

@@ -1,7 +1,6 @@
 -- What was read decides the plan of `map`, and its commit is the plain step.
 use Rattle.std.proofs.Common.{◌≡◌, inl, inr, ℕ, Bool, true, false, length, List, [], ◌∷◌, ◌++◌, Option, Some, None, is_some, refl, sym, ap, ◌∙◌, subst, nat_le}
-use Rattle.std.specs.Prelude.{IsTrue, Ok, Err}
-use Rattle.std.specs.Option.{SomeIff}
+use Rattle.std.specs.Prelude.{Ok, Err}
 use Rattle.std.specs.FinMap as map
 use Rattle.cell_world.specs.Texts.{Text}
 use Rattle.cell_world.specs.Images.{Image, Global, global, image_at, end_of_trail, after_one}
@@ -34,9 +33,6 @@ use Rattle.map_ops.proofs.ScanLaws.{scan_counts}
 
 -- ---- what is told
 
--- the name that was read is the one that is spelled
-pub spelled : (read : Option Text) (name text : Text) → SomeIff read (IsTrue true) text → read ≡ Some name → name ≡ text
-spelled read name text said is = let so : SomeIff (Some name) (IsTrue true) text = subst (λ r. SomeIff r (IsTrue true) text) is said in so.1
 
 -- the scan from the least name says whether 64 maps stand
 pub scan_tells : (told : Told) (found : List Cell) (least : Text) (count : ℕ) → TellsCells told → least ≡ 65 ∷ [] → count ≡ length found → IfContents told (λ image. IsScan (global image) (at.Map least) 64 found)

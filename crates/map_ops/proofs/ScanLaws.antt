@@ -14,7 +14,8 @@ use Rattle.cell_world.specs.Texts.{Text, is_name, is_letter, is_name_byte}
 use Rattle.cell_world.specs.ByteOrder.{byte_cmp}
 use Rattle.cell_world.specs.Lists.{IsOneOf}
 use Rattle.cell_world.specs.Stores.{Store, IsStore, Stands, own_key, cell_at}
-use Rattle.cell_world.specs.Finding.{cell_cmp, kind_number, IsScan, IsFromOn, Rises}
+use Rattle.cell_world.specs.Finding.{IsScan, IsFromOn, Rises}
+use Rattle.cell_world.specs.Orders.{cell_cmp, kind_number}
 use Rattle.cell_world.specs.declared.cells.MapKind.{MapKind}
 use Rattle.cell_world.specs.declared.cells.KeyType.{KeyType}
 use Rattle.cell_world.specs.declared.cells.Cell.{Cell}

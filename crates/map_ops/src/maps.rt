@@ -5,23 +5,19 @@ ghost use Rattle.cell_world.specs.Counts.{Rose};
 ghost use Rattle.cell_world.specs.Images.{global};
 ghost use Rattle.cell_world.specs.Outside.{IfContents, IsLater};
 ghost use Rattle.cell_world.specs.Sound.{Sound};
+ghost use Rattle.cell_world.specs.declared.limits.TheConstants.{MOST_MAPS};
 ghost use Rattle.map_ops.specs.Planning.{Plans, IsPlanOfOneWord};
 ghost use Rattle.plain_model.specs.declared.commands.Command.TheVariants as command;
 
 use cell_world::cells::{Cell, CellKey, KeyType, MapKind, Site};
 use cell_world::changes::Change;
+use cell_world::limits::MOST_MAPS;
 use cell_world::names::Name;
 use cell_world::operations::Reach;
 use cell_world::outside::{World, WorldError};
 use plain_model::plans::{Plan, PlanStop};
 use plain_model::replies::{Refusal, Reply};
 use std::alloc::Global;
-
-/// The global store.
-const GLOBAL: Site = Site(0);
-
-/// The most maps that stand.
-const MOST_MAPS: u32 = 64;
 
 /// Whether a map of this name stands.
 fn stands<W: World>(alloc: Global, world: &mut W, name: Name) -> Result<bool, WorldError>
@@ -30,7 +26,7 @@ fn stands<W: World>(alloc: Global, world: &mut W, name: Name) -> Result<bool, Wo
     ensures later { IsLater (W.outside world.old) (W.outside world.new) }
     ensures cause { IsErrOf result WorldError.Failed → Rose ((W.outside world.old).faults_at 0) ((W.outside world.new).faults_at 0) }
 {
-    match world.read(alloc, GLOBAL, &CellKey::Map(name)) {
+    match world.read(alloc, Site::GLOBAL, &CellKey::Map(name)) {
         Ok(found) => Ok(found.is_some()),
         Err(error) => Err(error),
     }
@@ -38,19 +34,19 @@ fn stands<W: World>(alloc: Global, world: &mut W, name: Name) -> Result<bool, Wo
 
 /// Whether as many maps stand as may: a scan from the least name finds them.
 fn is_full<W: World>(alloc: Global, world: &mut W) -> Result<bool, WorldError>
-    ensures found { IfOk result (λ full. IfContents (W.outside world.old).told (λ image. full ≡ nat_le 64 (map.len (global image).maps))) }
+    ensures found { IfOk result (λ full. IfContents (W.outside world.old).told (λ image. full ≡ nat_le MOST_MAPS (map.len (global image).maps))) }
     ensures told { (W.outside world.new).told ≡ (W.outside world.old).told }
     ensures later { IsLater (W.outside world.old) (W.outside world.new) }
     ensures cause { IsErrOf result WorldError.Failed → Rose ((W.outside world.old).faults_at 0) ((W.outside world.new).faults_at 0) }
 {
-    let least = Name::read(b"A").unwrap();
-    match world.scan(alloc, GLOBAL, &CellKey::Map(least), MOST_MAPS) {
-        Ok(found) => Ok(found.len() >= MOST_MAPS as usize),
+    let least = Name::least();
+    match world.scan(alloc, Site::GLOBAL, &CellKey::Map(least), MOST_MAPS as u32) {
+        Ok(found) => Ok(found.len() >= MOST_MAPS),
         Err(error) => Err(error),
     }
 }
 
-/// The plan of `map NAME KIND TYPE`: the cell of a new map is put, where no map has the name and fewer than 64 stand.
+/// The plan of `map NAME KIND TYPE`: the cell of a new map is put, where no map has the name and fewer stand than may.
 pub fn plan_map<W: World>(
     alloc: Global,
     world: &mut W,

@@ -9,7 +9,7 @@ use Rattle.cell_world.specs.ByteOrder.{byte_cmp}
 use Rattle.cell_world.specs.Orders.{pair_cmp}
 use Rattle.cell_world.specs.Keys.{same}
 use Rattle.cell_world.specs.Stores.{AwaySites, Stands, empty_store, own_key, piece_key}
-use Rattle.cell_world.specs.Finding.{cell_cmp}
+use Rattle.cell_world.specs.Orders.{cell_cmp}
 use Rattle.cell_world.specs.declared.cells.Away.{Away}
 use Rattle.cell_world.specs.declared.cells.Away.TheVariants.{Suspect}
 use Rattle.cell_world.specs.declared.cells.Cell.{Cell}

@@ -10,7 +10,7 @@ use Rattle.cell_world.specs.Meaning.{meaning}
 use Rattle.cell_world.specs.Operations.{sites_of}
 use Rattle.cell_world.specs.Sound.{Sound}
 use Rattle.cell_world.specs.Counts.{Rose}
-use Rattle.cell_world.specs.Finding.{cell_cmp}
+use Rattle.cell_world.specs.Orders.{cell_cmp}
 use Rattle.cell_world.specs.Outside.{Outside, TellsContents, TellsTrail, IfContents, StoreRoseBy}
 use Rattle.cell_world.specs.declared.cells.Cell.{Cell}
 use Rattle.cell_world.specs.declared.cells.Cell.TheVariants as cell

@@ -20,6 +20,7 @@ use Rattle.cell_world.specs.declared.cells.Away.{Away}
 use Rattle.cell_world.specs.declared.cells.Away.TheVariants as away
 use Rattle.cell_world.specs.declared.cells.Status.{Status}
 use Rattle.cell_world.specs.declared.cells.Status.TheVariants as status
+use Rattle.cell_world.specs.declared.limits.TheConstants.{MOST_MAPS, MOST_TABLES, MOST_JOBS, LAST_JOB}
 use Rattle.cell_world.specs.declared.spans.High.{High}
 use Rattle.cell_world.specs.declared.spans.High.TheVariants as high
 use Rattle.cell_world.specs.declared.spans.Span.{Span}
@@ -315,17 +316,17 @@ number_in_use connection = (is_some connection, NumberInUse)
 abbrev pub no_connection : Option Connection → Check
 no_connection connection = (is_none connection, NoConnection)
 
--- 64 maps stand
+-- as many maps stand as may
 abbrev pub full_of_maps : PlainState → Check
-full_of_maps s = (nat_le 64 (map.len s.maps), Full)
+full_of_maps s = (nat_le MOST_MAPS (map.len s.maps), Full)
 
--- the map has 16 tables
+-- the map has as many tables as it may
 abbrev pub full_of_tables : PlainState → Text → Check
-full_of_tables s name = (nat_le 16 (length (filter (λ table. same name table.0) (set.items s.tables))), Full)
+full_of_tables s name = (nat_le MOST_TABLES (length (filter (λ table. same name table.0) (set.items s.tables))), Full)
 
--- 64 jobs stand, or the last job number was given
+-- as many jobs stand as may, or the last job number was given
 abbrev pub full_of_jobs : PlainState → Check
-full_of_jobs s = (nat_le 64 (map.len s.jobs) || nat_lt 4294967294 s.next_job, Full)
+full_of_jobs s = (nat_le MOST_JOBS (map.len s.jobs) || nat_lt LAST_JOB s.next_job, Full)
 
 -- the site is source or target of a job that has a batch under way
 abbrev pub job_in_progress : PlainState → Text → Check

@@ -1,6 +1,7 @@
 -- Which values of the words of a command a script can spell.
 use Rattle.std.specs.Prelude.{ℕ, ◌^◌, Bool, true, ◌&&◌, not, nat_le, length, codes, Option, Some, None}
 use Rattle.cell_world.specs.Keys.{same}
+use Rattle.cell_world.specs.declared.limits.TheConstants.{ROW_BYTES, BATCH_ROWS}
 use Rattle.cell_world.specs.declared.cells.Token.{Token}
 use Rattle.plain_model.specs.declared.commands.HighText.{HighText}
 use Rattle.plain_model.specs.declared.commands.HighText.TheVariants as word
@@ -37,11 +38,11 @@ is_worded (command.Lock name key token) = is_token_word token
 is_worded (command.Unlock name key token) = is_token_word token
 is_worded (command.Open number name key) = is_connection_word number
 is_worded (command.Close number) = is_connection_word number
-is_worded (command.Put number table id bytes) = is_connection_word number && nat_le (length bytes) 1024
+is_worded (command.Put number table id bytes) = is_connection_word number && nat_le (length bytes) ROW_BYTES
 is_worded (command.Get number table id) = is_connection_word number
 is_worded (command.Del number table id) = is_connection_word number
 is_worded (command.Resolve location name number side) = nat_le 1 number
-is_worded (command.Job name low high location batch) = is_high_word high && (nat_le 1 batch && nat_le batch 100000)
+is_worded (command.Job name low high location batch) = is_high_word high && (nat_le 1 batch && nat_le batch BATCH_ROWS)
 is_worded (command.Step number) = nat_le 1 number
 is_worded (command.Run number) = nat_le 1 number
 is_worded other = true

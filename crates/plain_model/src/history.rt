@@ -3,7 +3,7 @@ ghost use Rattle.std.specs.Prelude.{◌≡◌, ◌++◌, ◌∷◌, ◌<◌, [],
 
 use crate::commands::Command;
 use crate::replies::Reply;
-use cell_world::items::Memory;
+use cell_world::memory::Memory;
 use std::alloc::Global;
 use std::marker::Model;
 
@@ -68,16 +68,13 @@ impl History {
         ensures ok { OnOk result (self.new ≡ self.old ++ opened session command moment ∷ []) }
         ensures err { OnErr result (self.new ≡ self.old) }
     {
-        let pushed = self.entries.push(Entry {
+        self.entries.push(Entry {
             session,
             command,
             reply: None,
             moment,
             operation: 0,
-        });
-        if pushed.is_err() {
-            return Err(Memory);
-        }
+        })?;
         Ok(())
     }
 

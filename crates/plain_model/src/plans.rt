@@ -3,7 +3,7 @@ ghost use Rattle.std.specs.Prelude.{◌≡◌};
 
 use crate::replies::{Refusal, Reply};
 use cell_world::changes::Change;
-use cell_world::items::Memory;
+use cell_world::memory::Memory;
 use cell_world::operations::{Op, Reach};
 use cell_world::outside::WorldError;
 

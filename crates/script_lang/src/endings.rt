@@ -3,7 +3,7 @@ ghost use Rattle.std.specs.Prelude.{◌≡◌, ◌++◌, codes, decimal, IfOk, O
 ghost use Rattle.plain_model.specs.Lines.{reason_text, status_text, error_line};
 ghost use Rattle.script_lang.specs.Endings.{exit_status};
 
-use cell_world::items::Memory;
+use cell_world::memory::Memory;
 use plain_model::finish::{Reason, RunStatus};
 use std::alloc::Global;
 
@@ -28,19 +28,15 @@ pub fn exit_number(status: &RunStatus) -> u8
 fn add(line: &mut Vec<u8>, bytes: &[u8]) -> Result<(), Memory>
     ensures { OnOk result (line.new.items ≡ line.old.items ++ bytes.now) }
 {
-    match line.extend_from_slice(bytes) {
-        Ok(()) => Ok(()),
-        Err(_) => Err(Memory),
-    }
+    line.extend_from_slice(bytes)?;
+    Ok(())
 }
 
 /// Adds a number in decimal.
 fn add_number(alloc: Global, line: &mut Vec<u8>, number: u32) -> Result<(), Memory>
     ensures { OnOk result (line.new.items ≡ line.old.items ++ decimal number) }
 {
-    let Ok(text) = format!(in alloc; "{number}") else {
-        return Err(Memory);
-    };
+    let text = format!(in alloc; "{number}")?;
     add(line, text.as_bytes())
 }
 

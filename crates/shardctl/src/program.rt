@@ -4,7 +4,7 @@ ghost use Rattle.cell_world.specs.Images.{empty_image};
 ghost use Rattle.world_memory.specs.Memory.{outside_of};
 ghost use Rattle.world_memory.specs.Told.{fresh};
 
-use cell_world::items::Memory;
+use cell_world::memory::Memory;
 use plain_model::finish::RunStatus;
 use script_shell::shell::run_script;
 use script_shell::std_source::StdSource;

@@ -12,8 +12,8 @@ use Rattle.cell_world.specs.declared.cells.Site.{Site}
 use Rattle.cell_world.specs.declared.changes.Edit.{Edit}
 use Rattle.cell_world.proofs.KeyedLaws.{cell_at-empty}
 use Rattle.world_memory.specs.declared.contents.SiteKey.{SiteKey}
-use Rattle.world_memory.specs.declared.contents.Happened.{Happened}
-use Rattle.world_memory.specs.declared.contents.Happened.TheVariants.{Committed, Wrote, Reopened}
+use Rattle.world_memory.specs.declared.contents.Made.{Made}
+use Rattle.world_memory.specs.declared.contents.Made.TheVariants.{Committed, Wrote, Reopened}
 use Rattle.world_memory.specs.contracts.contents.SiteKeyOrd.TheImpl.{ghosts}
 use Rattle.world_memory.specs.Kept.{Holds, IsAt, edits_at, all_edits, edits_of, next_edits, store_after}
 
@@ -32,12 +32,12 @@ edit_more s zero (e ∷ es) d less = refl
 edit_more s (suc i) (e ∷ es) d less = ap (λ n. changed s (take n (e ∷ es))) (let is : suc i + 1 ≡ suc (i + 1) = omega arith in is) ∙ edit_more (edited s e) i es d (omega arith)
 
 -- one entry more
-pub entry_more : (n : ℕ) (s : Store) (i : ℕ) (hs : List Happened) (d : Happened) → i < length hs → store_after n s (take (i + 1) hs) ≡ changed (store_after n s (take i hs)) (edits_at n (get_or hs i d))
+pub entry_more : (n : ℕ) (s : Store) (i : ℕ) (hs : List Made) (d : Made) → i < length hs → store_after n s (take (i + 1) hs) ≡ changed (store_after n s (take i hs)) (edits_at n (get_or hs i d))
 entry_more n s i [] d less = absurd (omega arith)
 entry_more n s zero (h ∷ hs) d less = refl
 entry_more n s (suc i) (h ∷ hs) d less = ap (λ j. store_after n s (take j (h ∷ hs))) (let is : suc i + 1 ≡ suc (i + 1) = omega arith in is) ∙ entry_more n (changed s (edits_at n h)) i hs d (omega arith)
 
-pub entry_added : (n : ℕ) (s : Store) (hs : List Happened) (h : Happened) → store_after n s (hs ++ h ∷ []) ≡ changed (store_after n s hs) (edits_at n h)
+pub entry_added : (n : ℕ) (s : Store) (hs : List Made) (h : Made) → store_after n s (hs ++ h ∷ []) ≡ changed (store_after n s hs) (edits_at n h)
 entry_added n s [] h = refl
 entry_added n s (e ∷ es) h = entry_added n (changed s (edits_at n e)) es h
 
@@ -46,7 +46,7 @@ entry_added n s (e ∷ es) h = entry_added n (changed s (edits_at n e)) es h
 none_found : (entries : List (SiteKey × Cell)) (test : SiteKey → Bool) → entries ≡ [] → lookup test entries ≡ None
 none_found entries test is = ap (lookup test) is
 
-pub at_start : (m : BTreeMap SiteKey Cell) → IsEmpty m → (happened : List Happened) → IsAt happened m 0 0
+pub at_start : (m : BTreeMap SiteKey Cell) → IsEmpty m → (happened : List Made) → IsAt happened m 0 0
 at_start m empty happened = record {
   done_within = omega arith;
   part_within = omega arith;
@@ -64,11 +64,11 @@ made_more m stores site i edits edit is less = same_holds m _ _ (λ n. by n (n =
     by n false = ap (changed (stores n)) (take_none i ∙ sym (take_none (i + 1)))
 
 -- what an entry is
-pub entry_is : (happened : List Happened) (done : ℕ) (h : Happened) → h ≡ get_or happened done h → done < length happened → slice_get happened done ≡ Some h
+pub entry_is : (happened : List Made) (done : ℕ) (h : Made) → h ≡ get_or happened done h → done < length happened → slice_get happened done ≡ Some h
 entry_is happened done h is less = slice_get-get_or happened done h less ∙ ap Some (sym is)
 
 -- All of the next entry is made.
-pub next_entry : (happened : List Happened) (m : BTreeMap SiteKey Cell) (done : ℕ) (h : Happened) → h ≡ get_or happened done h → done < length happened
+pub next_entry : (happened : List Made) (m : BTreeMap SiteKey Cell) (done : ℕ) (h : Made) → h ≡ get_or happened done h → done < length happened
     → Holds m (λ n. changed (store_after n empty_store (take done happened)) (edits_at n h))
     → IsAt happened m (done + 1) 0
 next_entry happened m done h is less holds = record {
@@ -78,23 +78,23 @@ next_entry happened m done h is less holds = record {
 }
 
 -- before the edits of the next entry
-pub in_entry : (happened : List Happened) (m : BTreeMap SiteKey Cell) (done part : ℕ) (h : Happened) → h ≡ get_or happened done h → done < length happened
+pub in_entry : (happened : List Made) (m : BTreeMap SiteKey Cell) (done part : ℕ) (h : Made) → h ≡ get_or happened done h → done < length happened
     → IsAt happened m done part → Holds m (λ n. changed (store_after n empty_store (take done happened)) (take part (edits_at n h)))
 in_entry happened m done part h is less at = same_holds m _ _ (λ n. ap (λ e. changed (store_after n empty_store (take done happened)) (take part (next_edits n e))) (entry_is happened done h is less)) at.holds
 
-pub within_entry : (happened : List Happened) (m : BTreeMap SiteKey Cell) (done part : ℕ) (h : Happened) → h ≡ get_or happened done h → done < length happened
+pub within_entry : (happened : List Made) (m : BTreeMap SiteKey Cell) (done part : ℕ) (h : Made) → h ≡ get_or happened done h → done < length happened
     → IsAt happened m done part → part ≤ length (all_edits h)
 within_entry happened m done part h is less at = subst (λ e. part ≤ length (edits_of e)) (entry_is happened done h is less) at.part_within
 
 -- an entry without edits is made
-pub no_edits : (happened : List Happened) (m : BTreeMap SiteKey Cell) (done part : ℕ) (h : Happened) → h ≡ get_or happened done h → done < length happened
+pub no_edits : (happened : List Made) (m : BTreeMap SiteKey Cell) (done part : ℕ) (h : Made) → h ≡ get_or happened done h → done < length happened
     → ((n : ℕ) → edits_at n h ≡ []) → IsAt happened m done part → IsAt happened m (done + 1) 0
 no_edits happened m done part h is less none at = next_entry happened m done h is less (same_holds m _ _
     (λ n. ap (λ es. changed (store_after n empty_store (take done happened)) (take part es)) (none n) ∙ ap (changed (store_after n empty_store (take done happened))) (take_none part ∙ sym (none n)))
     (in_entry happened m done part h is less at))
 
 -- some edits of a change are made
-module _ (happened : List Happened) (m n : BTreeMap SiteKey Cell) (done part part' : ℕ) (h : Happened) (at : Site) (change edits : List Edit)
+module _ (happened : List Made) (m n : BTreeMap SiteKey Cell) (done part part' : ℕ) (h : Made) (at : Site) (change edits : List Edit)
     (is : h ≡ get_or happened done h) (less : done < length happened) (commit : h ≡ Committed at change) (same : edits ≡ change)
     (made : (stores : ℕ → Store) → Holds m (λ k. changed (stores k) (take part (if k == at.0 then edits else []))) → Holds n (λ k. changed (stores k) (take part' (if k == at.0 then edits else []))))
     (before : IsAt happened m done part) where
@@ -122,13 +122,13 @@ module _ (happened : List Happened) (m n : BTreeMap SiteKey Cell) (done part par
       by k false e = ap (changed (stores k)) (take_none part' ∙ sym e)
 
 -- At the end the table holds the stores.
-pub at_end : (happened : List Happened) (m : BTreeMap SiteKey Cell) (done part : ℕ) → IsAt happened m done part → length happened ≤ done → Holds m (λ n. store_after n empty_store happened)
+pub at_end : (happened : List Made) (m : BTreeMap SiteKey Cell) (done part : ℕ) → IsAt happened m done part → length happened ≤ done → Holds m (λ n. store_after n empty_store happened)
 at_end happened m done part at all = same_holds m _ _
     (λ n. ap (λ e. changed (store_after n empty_store (take done happened)) (take part (next_edits n e))) (slice_get_past happened done all) ∙ ap (changed (store_after n empty_store (take done happened))) (take_none part) ∙ ap (store_after n empty_store) (take_all done happened all))
     at.holds
 
 -- an entry stays where it is
-slice_get-append : (hs : List Happened) (h : Happened) (i : ℕ) → i < length hs → slice_get (hs ++ h ∷ []) i ≡ slice_get hs i
+slice_get-append : (hs : List Made) (h : Made) (i : ℕ) → i < length hs → slice_get (hs ++ h ∷ []) i ≡ slice_get hs i
 slice_get-append [] h i less = absurd (omega arith)
 slice_get-append (e ∷ es) h zero less = refl
 slice_get-append (e ∷ es) h (suc i) less = slice_get-append es h i (omega arith)
@@ -137,7 +137,7 @@ take_zero : (edits : List Edit) → take 0 edits ≡ []
 take_zero edits = refl
 
 -- What happens next is to be made.
-pub one_more : (happened : List Happened) (h : Happened) (m : BTreeMap SiteKey Cell) (done part : ℕ) → IsAt happened m done part → IsAt (happened ++ h ∷ []) m done part
+pub one_more : (happened : List Made) (h : Made) (m : BTreeMap SiteKey Cell) (done part : ℕ) → IsAt happened m done part → IsAt (happened ++ h ∷ []) m done part
 one_more happened h m done part at = ⊎_elim
     (λ less. record {
       done_within = omega (arith, length-append happened (h ∷ []), at.done_within);
@@ -155,7 +155,7 @@ one_more happened h m done part at = ⊎_elim
     start all = let few : part ≤ 0 = subst (λ e. part ≤ length (edits_of e)) (slice_get_past happened done all) at.part_within in omega (arith, few)
 
 -- What isn't a commit has no edits.
-pub not_commit : (h : Happened) → ((at : Site) (change : List Edit) → h ≡ Committed at change → ⊥) → (n : ℕ) → edits_at n h ≡ []
+pub not_commit : (h : Made) → ((at : Site) (change : List Edit) → h ≡ Committed at change → ⊥) → (n : ℕ) → edits_at n h ≡ []
 not_commit (Committed at change) other n = absurd (other at change refl)
 not_commit (Wrote bytes) other n = refl
 not_commit (Reopened at) other n = refl

@@ -6,7 +6,8 @@ use Rattle.std.specs.declared.ops.Bound.{Bound}
 use Rattle.std.specs.declared.ops.Bound.TheVariants.{Included, Unbounded}
 use Rattle.std.specs.BTreeMap.{BTreeMap, get}
 use Rattle.std.specs.BTreeMap.Range.{IsRangeOf, IsInRange, IsFromStart}
-use Rattle.cell_world.specs.Finding.{cell_cmp, kind_number, map_of, IsFloor, IsAtOrBelow}
+use Rattle.cell_world.specs.Finding.{IsFloor, IsAtOrBelow}
+use Rattle.cell_world.specs.Orders.{cell_cmp, kind_number, map_of}
 use Rattle.cell_world.specs.Stores.{Store, IsKeyed, own_key, cell_at, Stands}
 use Rattle.cell_world.specs.declared.cells.Cell.{Cell}
 use Rattle.cell_world.specs.declared.cells.CellKey.{CellKey}

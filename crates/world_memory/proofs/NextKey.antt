@@ -9,7 +9,8 @@ use Rattle.std.proofs.lemmas.Cmp.{tied_itself, nat_list_cmp_total, ranked}
 use Rattle.cell_world.specs.Texts.{Text, is_name, is_letter, is_digit, is_name_byte}
 use Rattle.cell_world.specs.ByteOrder.{byte_cmp}
 use Rattle.cell_world.specs.Keys.{below, at_most}
-use Rattle.cell_world.specs.Finding.{cell_cmp, kind_number, IsNextKey, IsRowKey}
+use Rattle.cell_world.specs.Finding.{IsNextKey, IsRowKey}
+use Rattle.cell_world.specs.Orders.{cell_cmp, kind_number}
 use Rattle.cell_world.specs.Spelled.{IsRowName}
 use Rattle.cell_world.specs.Stores.{Store, IsStore, own_key, Stands}
 use Rattle.cell_world.specs.declared.cells.RowName.{RowName}

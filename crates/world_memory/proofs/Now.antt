@@ -13,8 +13,8 @@ use Rattle.cell_world.specs.declared.cells.Site.{Site}
 use Rattle.cell_world.specs.declared.cells.Cell.{Cell}
 use Rattle.cell_world.proofs.KeyedLaws.{store_empty}
 use Rattle.world_memory.specs.declared.contents.SiteKey.{SiteKey}
-use Rattle.world_memory.specs.declared.contents.Happened.{Happened}
-use Rattle.world_memory.specs.declared.contents.Happened.TheVariants as kept
+use Rattle.world_memory.specs.declared.contents.Made.{Made}
+use Rattle.world_memory.specs.declared.contents.Made.TheVariants as kept
 use Rattle.cell_world.specs.declared.changes.Edit.{Edit}
 use Rattle.std.specs.Result.{is_ok, is_err}
 use Rattle.world_memory.specs.Kept.{IsKept, IsAt, store_after}
@@ -32,14 +32,14 @@ pub same_as : (a b : Outside) → b ≡ a → SameButFaults a b
 same_as a b is = subst (SameButFaults a) (sym is) (same_self a)
 
 -- a read
-pub read_counted : (l : List Text) (hs : List Happened) (start reads after : ℕ) (site : Site) → after ≡ (if site.0 == 0 then one_more reads else reads) → SameButFaults (read_at (tells l (trail_from l hs start) reads) site) (tells l (trail_from l hs start) after)
+pub read_counted : (l : List Text) (hs : List Made) (start reads after : ℕ) (site : Site) → after ≡ (if site.0 == 0 then one_more reads else reads) → SameButFaults (read_at (tells l (trail_from l hs start) reads) site) (tells l (trail_from l hs start) after)
 read_counted l hs start reads after site is = same_as _ _ (ap (tells l (trail_from l hs start)) is ∙ by (site.0 == 0))
   where
     by : (b : Bool) → tells l (trail_from l hs start) (if b then one_more reads else reads) ≡ (if b then record (tells l (trail_from l hs start) reads) { global_reads = one_more reads } else tells l (trail_from l hs start) reads)
     by true = refl
     by false = refl
 
-module _ (l : List Text) (hs : List Happened) (start reads : ℕ) (within : start ≤ length hs) (site : Site) (known : IsSome (place_at l site.0)) where
+module _ (l : List Text) (hs : List Made) (start reads : ℕ) (within : start ≤ length hs) (site : Site) (known : IsSome (place_at l site.0)) where
   the_place : (place : Place) × (place_at l site.0 ≡ Some place)
   the_place = by (place_at l site.0) refl known
     where
@@ -67,7 +67,7 @@ module _ (l : List Text) (hs : List Happened) (start reads : ℕ) (within : star
         image_is known = subst (λ xs. IsImage (leaves l (empty_image l) xs)) (take-length hs) (image_leaves l (empty_image l) hs (length hs) known (λ place. store_empty))
 
   -- one thing more happens at the site
-  pub happened_at : (h : Place → Happening) (e : Happened) (after : List Happened) → after ≡ hs ++ e ∷ []
+  pub happened_at : (h : Place → Happening) (e : Made) (after : List Made) → after ≡ hs ++ e ∷ []
       → ((place : Place) → place_at l site.0 ≡ Some place → told_as l (leaves l (empty_image l) hs) e ≡ h place)
       → SameButFaults (happens_at (tells l (trail_from l hs start) reads) site h) (tells l (trail_from l after start) reads)
   unfolding the_place
@@ -78,21 +78,21 @@ module _ (l : List Text) (hs : List Happened) (start reads : ℕ) (within : star
 
 -- ---- after a push that had room, or hadn't
 
-module _ (hs : List Happened) (e : Happened) where
-  pub kept_after : (b : Bool) (after : List Happened) → after ≡ (if b then hs ++ e ∷ [] else hs) → AllByRecursion IsKept hs → IsKept e → AllByRecursion IsKept after
+module _ (hs : List Made) (e : Made) where
+  pub kept_after : (b : Bool) (after : List Made) → after ≡ (if b then hs ++ e ∷ [] else hs) → AllByRecursion IsKept hs → IsKept e → AllByRecursion IsKept after
   kept_after true after is are one = subst (AllByRecursion IsKept) (sym is) (kept_added hs e are one)
   kept_after false after is are one = subst (AllByRecursion IsKept) (sym is) are
 
-  pub within_after : (b : Bool) (after : List Happened) (start : ℕ) → after ≡ (if b then hs ++ e ∷ [] else hs) → start ≤ length hs → start ≤ length after
+  pub within_after : (b : Bool) (after : List Made) (start : ℕ) → after ≡ (if b then hs ++ e ∷ [] else hs) → start ≤ length hs → start ≤ length after
   within_after true after start is less = omega (arith, less, ap length is, length-append hs (e ∷ []))
   within_after false after start is less = omega (arith, less, ap length is)
 
-  pub at_after : (b : Bool) (after : List Happened) (m : BTreeMap SiteKey Cell) (done part : ℕ) → after ≡ (if b then hs ++ e ∷ [] else hs) → IsAt hs m done part → IsAt after m done part
+  pub at_after : (b : Bool) (after : List Made) (m : BTreeMap SiteKey Cell) (done part : ℕ) → after ≡ (if b then hs ++ e ∷ [] else hs) → IsAt hs m done part → IsAt after m done part
   at_after true after m done part is at = subst (λ xs. IsAt xs m done part) (sym is) (follow.one_more hs e m done part at)
   at_after false after m done part is at = subst (λ xs. IsAt xs m done part) (sym is) at
 
   -- the push had room
-  pub pushed : {T E : Type 0} (after : List Happened) (r : Result T E) → false ≡ is_err r → after ≡ (if is_ok r then hs ++ e ∷ [] else hs) → after ≡ hs ++ e ∷ []
+  pub pushed : {T E : Type 0} (after : List Made) (r : Result T E) → false ≡ is_err r → after ≡ (if is_ok r then hs ++ e ∷ [] else hs) → after ≡ hs ++ e ∷ []
   pushed after (Ok x) h is = is
   pushed after (Err y) h is = cc
 
@@ -100,13 +100,13 @@ module _ (hs : List Happened) (e : Happened) where
 pub committed : (l : List Text) (before : Image) (site : Site) (copy change : List Edit) → copy ≡ change → (place : Place) → place_at l site.0 ≡ Some place → told_as l before (kept.Committed site copy) ≡ Committed place change true
 committed l before site copy change same place is = ap (λ p. unwrap_or (option_map (λ q. Committed q copy true) p) (Wrote [])) is ∙ ap (λ es. Committed place es true) same
 
-module _ (l : List Text) (hs : List Happened) (start reads : ℕ) (within : start ≤ length hs) where
-  pub has_written : (copy bytes : Text) (after : List Happened) → copy ≡ bytes → after ≡ hs ++ kept.Wrote copy ∷ [] → SameButFaults (happens (tells l (trail_from l hs start) reads) (Wrote bytes)) (tells l (trail_from l after start) reads)
+module _ (l : List Text) (hs : List Made) (start reads : ℕ) (within : start ≤ length hs) where
+  pub has_written : (copy bytes : Text) (after : List Made) → copy ≡ bytes → after ≡ hs ++ kept.Wrote copy ∷ [] → SameButFaults (happens (tells l (trail_from l hs start) reads) (Wrote bytes)) (tells l (trail_from l after start) reads)
   has_written copy bytes after same is = same_as _ _
       (ap (λ xs. tells l (trail_from l xs start) reads) is
       ∙ ap (λ t. tells l t reads) (trail_added l hs (kept.Wrote copy) start within ∙ ap (λ b. extended (trail_from l hs start) (Wrote b)) same))
 
-  pub has_reopened : (site : Site) → IsSome (place_at l site.0) → IsDistinct same l → AllByRecursion IsKept hs → (after : List Happened) → after ≡ hs ++ kept.Reopened site ∷ []
+  pub has_reopened : (site : Site) → IsSome (place_at l site.0) → IsDistinct same l → AllByRecursion IsKept hs → (after : List Made) → after ≡ hs ++ kept.Reopened site ∷ []
       → (cells : Store) × IsStore cells × SameButFaults (happens_at (tells l (trail_from l hs start) reads) site (λ place. Reopened place cells)) (tells l (trail_from l after start) reads)
   has_reopened site known apart are after is = (
     store_after site.0 empty_store hs,

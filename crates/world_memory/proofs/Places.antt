@@ -9,8 +9,8 @@ use Rattle.cell_world.specs.Images.{Image, Place, Global, Shard, Committed, Wrot
 use Rattle.cell_world.specs.Outside.{place_at}
 use Rattle.cell_world.proofs.ImageLaws.{same_place_self, same_place_is}
 use Rattle.cell_world.proofs.SpanLaws.{same_self}
-use Rattle.world_memory.specs.declared.contents.Happened.{Happened}
-use Rattle.world_memory.specs.declared.contents.Happened.TheVariants as kept
+use Rattle.world_memory.specs.declared.contents.Made.{Made}
+use Rattle.world_memory.specs.declared.contents.Made.TheVariants as kept
 use Rattle.world_memory.specs.Kept.{edits_at, store_after}
 use Rattle.world_memory.specs.Told.{told_as, leaves}
 
@@ -59,7 +59,7 @@ apart_from : (a b : ℕ) → a ≡ b → (a == b) ≡ false → ⊥
 apart_from a b e f = grind (arith, e, f)
 
 -- what an entry leaves at a site
-after_entry : (locations : List Text) (image : Image) (n : ℕ) (place : Place) (h : Happened) → IsDistinct same locations → place_at locations n ≡ Some place
+after_entry : (locations : List Text) (image : Image) (n : ℕ) (place : Place) (h : Made) → IsDistinct same locations → place_at locations n ≡ Some place
     → (after_one image (told_as locations image h)).at place ≡ changed (image.at place) (edits_at n h)
 after_entry locations image n place (kept.Committed at change) apart is = by (place_at locations at.0) refl (n == at.0) refl
   where
@@ -86,7 +86,7 @@ after_entry locations image n place (kept.Reopened at) apart is = by (place_at l
         held true e = ap image.at (same_place_is p place e)
         held false e = refl
 
-pub stores_left : (locations : List Text) (image : Image) (n : ℕ) (place : Place) (hs : List Happened) → IsDistinct same locations → place_at locations n ≡ Some place
+pub stores_left : (locations : List Text) (image : Image) (n : ℕ) (place : Place) (hs : List Made) → IsDistinct same locations → place_at locations n ≡ Some place
     → (leaves locations image hs).at place ≡ store_after n (image.at place) hs
 stores_left locations image n place [] apart is = refl
 stores_left locations image n place (h ∷ hs) apart is = stores_left locations (after_one image (told_as locations image h)) n place hs apart is ∙ ap (λ s. store_after n s hs) (after_entry locations image n place h apart is)

@@ -6,7 +6,8 @@ use Rattle.std.specs.Ordering.{is_lt, is_gt}
 use Rattle.std.specs.Cmp.{IsTotalOrder}
 use Rattle.std.proofs.lemmas.Cmp.{upto, tied_itself}
 use Rattle.cell_world.specs.Lists.{IsOneOf}
-use Rattle.cell_world.specs.Finding.{cell_cmp, kind_number, Rises, IsScan, IsFromOn}
+use Rattle.cell_world.specs.Finding.{Rises, IsScan, IsFromOn}
+use Rattle.cell_world.specs.Orders.{cell_cmp, kind_number}
 use Rattle.cell_world.specs.Stores.{Store, own_key, cell_at, Stands}
 use Rattle.cell_world.specs.declared.cells.Cell.{Cell}
 use Rattle.cell_world.specs.declared.cells.CellKey.{CellKey}

@@ -9,7 +9,7 @@ use Rattle.std.proofs.lemmas.Cmp.{tied_itself, nat_cmp_total, ranked, nat_list_c
 use Rattle.cell_world.specs.Texts.{Text}
 use Rattle.cell_world.specs.ByteOrder.{byte_cmp}
 use Rattle.cell_world.specs.KeyOrder.{same_order}
-use Rattle.cell_world.specs.Finding.{cell_cmp, kind_number, fields_of, map_of}
+use Rattle.cell_world.specs.Orders.{cell_cmp, kind_number, fields_of, map_of}
 use Rattle.cell_world.specs.declared.cells.CellKey.{CellKey}
 use Rattle.cell_world.specs.declared.cells.CellKey.TheVariants as at
 use Rattle.cell_world.specs.contracts.cells.CellKeyOrd.TheImpl.Laws.{total-law}

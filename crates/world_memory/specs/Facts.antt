@@ -5,7 +5,7 @@ use Rattle.cell_world.specs.Texts.{Text, is_location}
 use Rattle.cell_world.specs.Keys.{same}
 use Rattle.world_memory.specs.Kept.{IsKept, all_edits}
 use Rattle.world_memory.specs.Propositions.{holds, change}
-use Rattle.world_memory.specs.declared.contents.Happened.{Happened}
+use Rattle.world_memory.specs.declared.contents.Made.{Made}
 
 pub spelled_fact : (locations : List Text) → IsProp (AllByRecursion (λ location. IsTrue (is_location location)) locations)
 spelled_fact = AllByRecursion-prop _ (λ location. holds (is_location location))
@@ -13,5 +13,5 @@ spelled_fact = AllByRecursion-prop _ (λ location. holds (is_location location))
 pub distinct_fact : (locations : List Text) → IsProp (IsDistinct same locations)
 distinct_fact = IsDistinct-prop same
 
-pub kept_fact : (happened : List Happened) → IsProp (AllByRecursion IsKept happened)
+pub kept_fact : (happened : List Made) → IsProp (AllByRecursion IsKept happened)
 kept_fact = AllByRecursion-prop IsKept (λ h. change (all_edits h))

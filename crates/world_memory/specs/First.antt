@@ -5,8 +5,9 @@ use Rattle.std.specs.declared.cmp.Ordering.TheVariants.{Less}
 use Rattle.std.specs.declared.ops.Bound.{Bound}
 use Rattle.std.specs.declared.ops.Bound.TheVariants.{Included, Excluded}
 use Rattle.cell_world.specs.Texts.{Text}
-use Rattle.cell_world.specs.Finding.{cell_cmp, kind_number}
+use Rattle.cell_world.specs.Orders.{cell_cmp, kind_number}
 use Rattle.cell_world.specs.Stores.{Store, own_key, Stands}
+use Rattle.cell_world.specs.declared.limits.TheConstants.{NAME_BYTES}
 use Rattle.cell_world.specs.declared.cells.Cell.{Cell}
 use Rattle.cell_world.specs.declared.cells.Cell.TheVariants as cell
 use Rattle.cell_world.specs.declared.cells.RowName.{RowName}
@@ -46,5 +47,5 @@ row_within (Some c) = row_named c
 
 -- a row name that is at or below all rows of the key; with `past`, at or above all of them
 abbrev pub beside : Bool → Text → Text → RowName
-beside true map key = record { map = map; key = key; table = replicate 32 122; number = 2 ^ 64 - 1 }
+beside true map key = record { map = map; key = key; table = replicate NAME_BYTES 122; number = 2 ^ 64 - 1 }
 beside false map key = record { map = map; key = key; table = 65 ∷ []; number = 0 }

@@ -9,8 +9,9 @@ use Rattle.cell_world.specs.Stores.{Store, IsStore}
 use Rattle.cell_world.specs.Images.{Image, Place, Committed, Wrote, Reopened, IsImage, same_place, after_one, after_all, empty_image}
 use Rattle.cell_world.specs.Outside.{IsWorld, place_at}
 use Rattle.cell_world.proofs.KeyedLaws.{store_empty, store_edits}
-use Rattle.world_memory.specs.declared.contents.Happened.{Happened}
-use Rattle.world_memory.specs.declared.contents.Happened.TheVariants as kept
+use Rattle.cell_world.specs.declared.limits.TheConstants.{MOST_LOCATIONS}
+use Rattle.world_memory.specs.declared.contents.Made.{Made}
+use Rattle.world_memory.specs.declared.contents.Made.TheVariants as kept
 use Rattle.world_memory.specs.Kept.{IsKept}
 use Rattle.world_memory.specs.Told.{told_as, story, leaves, begins, trail_from, tells}
 
@@ -19,7 +20,7 @@ one_of : (b : Bool) (s t : Store) → IsStore s → IsStore t → IsStore (if b 
 one_of true s t f g = f
 one_of false s t f g = g
 
-image_one : (locations : List Text) (image : Image) (h : Happened) → IsKept h → IsImage image → IsImage (after_one image (told_as locations image h))
+image_one : (locations : List Text) (image : Image) (h : Made) → IsKept h → IsImage image → IsImage (after_one image (told_as locations image h))
 image_one locations image (kept.Committed at change) are is = by (place_at locations at.0)
   where
     by : (p : Option Place) → IsImage (after_one image (unwrap_or (option_map (λ place. Committed place change true) p) (Wrote [])))
@@ -32,23 +33,23 @@ image_one locations image (kept.Reopened at) are is = by (place_at locations at.
     by None = is
     by (Some p) = λ q. one_of (same_place p q) _ _ (is p) (is q)
 
-pub image_leaves : (locations : List Text) (image : Image) (hs : List Happened) (n : ℕ) → AllByRecursion IsKept hs → IsImage image → IsImage (leaves locations image (take n hs))
+pub image_leaves : (locations : List Text) (image : Image) (hs : List Made) (n : ℕ) → AllByRecursion IsKept hs → IsImage image → IsImage (leaves locations image (take n hs))
 image_leaves locations image hs zero are is = is
 image_leaves locations image [] (suc n) are is = is
 image_leaves locations image (h ∷ hs) (suc n) are is = image_leaves locations (after_one image (told_as locations image h)) hs n are.1 (image_one locations image h are.0 is)
 
-image_story : (locations : List Text) (image : Image) (hs : List Happened) (n : ℕ) → AllByRecursion IsKept hs → IsImage image → IsImage (after_all image (take n (story locations image hs)))
+image_story : (locations : List Text) (image : Image) (hs : List Made) (n : ℕ) → AllByRecursion IsKept hs → IsImage image → IsImage (after_all image (take n (story locations image hs)))
 image_story locations image hs zero are is = is
 image_story locations image [] (suc n) are is = is
 image_story locations image (h ∷ hs) (suc n) are is = image_story locations (after_one image (told_as locations image h)) hs n are.1 (image_one locations image h are.0 is)
 
-kept_drop : (hs : List Happened) (n : ℕ) → AllByRecursion IsKept hs → AllByRecursion IsKept (drop n hs)
+kept_drop : (hs : List Made) (n : ℕ) → AllByRecursion IsKept hs → AllByRecursion IsKept (drop n hs)
 kept_drop hs zero are = are
 kept_drop [] (suc n) are = are
 kept_drop (h ∷ hs) (suc n) are = kept_drop hs n are.1
 
 -- the locations stay
-same_locations : (locations : List Text) (image : Image) (h : Happened) → (after_one image (told_as locations image h)).locations ≡ image.locations
+same_locations : (locations : List Text) (image : Image) (h : Made) → (after_one image (told_as locations image h)).locations ≡ image.locations
 same_locations locations image (kept.Committed at change) = by (place_at locations at.0)
   where
     by : (p : Option Place) → (after_one image (unwrap_or (option_map (λ place. Committed place change true) p) (Wrote []))).locations ≡ image.locations
@@ -61,11 +62,11 @@ same_locations locations image (kept.Reopened at) = by (place_at locations at.0)
     by None = refl
     by (Some p) = refl
 
-over_all : (locations : List Text) (image : Image) (hs : List Happened) → (leaves locations image hs).locations ≡ image.locations
+over_all : (locations : List Text) (image : Image) (hs : List Made) → (leaves locations image hs).locations ≡ image.locations
 over_all locations image [] = refl
 over_all locations image (h ∷ hs) = over_all locations (after_one image (told_as locations image h)) hs ∙ same_locations locations image h
 
-pub is_world : (locations : List Text) (happened : List Happened) (start reads : ℕ) → AllByRecursion (λ location. IsTrue (is_location location)) locations → IsDistinct same locations → length locations ≤ 64 → AllByRecursion IsKept happened → reads ≤ last_count
+pub is_world : (locations : List Text) (happened : List Made) (start reads : ℕ) → AllByRecursion (λ location. IsTrue (is_location location)) locations → IsDistinct same locations → length locations ≤ MOST_LOCATIONS → AllByRecursion IsKept happened → reads ≤ last_count
     → IsWorld (tells locations (trail_from locations happened start) reads)
 is_world locations happened start reads spelled distinct few are counted = record {
   spelled = spelled;

@@ -6,13 +6,14 @@ ghost use Rattle.world_memory.specs.Kept.{Holds, IsAt, store_after};
 use crate::copies::{cell_copied, key_of};
 use cell_world::cells::{Cell, CellKey, Site};
 use cell_world::changes::{Change, Edit};
-use cell_world::items::{Items, Memory};
+use cell_world::items::Items;
+use cell_world::memory::Memory;
 use std::alloc::Global;
 use std::collections::BTreeMap;
 
-/// What happened to a world.
+/// What was made of a world: each is an entry of what happened.
 #[derive(Drop)]
-pub enum Happened {
+pub enum Made {
     /// A change was made at a site.
     Committed(Site, Change),
     /// Bytes went to the output.
@@ -72,11 +73,11 @@ fn make(
 
 impl Contents {
     ghost use Rattle.std.specs.Prelude.{List};
-    ghost use Rattle.world_memory.specs.declared.contents.Happened.{Happened};
+    ghost use Rattle.world_memory.specs.declared.contents.Made.{Made};
 
     /// No entry is made, and nothing stands. Takes no memory.
     pub fn new(alloc: Global) -> Contents
-        ensures { (happened : List Happened) → IsAt happened result.cells result.done result.part }
+        ensures { (happened : List Made) → IsAt happened result.cells result.done result.part }
     {
         Contents {
             cells: BTreeMap::new(alloc),
@@ -101,13 +102,13 @@ impl Contents {
     }
 
     /// Makes the next entry.
-    fn step(&mut self, alloc: Global, happened: &[Happened]) -> Result<(), Memory>
+    fn step(&mut self, alloc: Global, happened: &[Made]) -> Result<(), Memory>
         requires at { IsAt happened.now self.old.cells self.old.done self.old.part }
         requires more { self.old.done < length happened.now }
         ensures at { IsAt happened.now self.new.cells self.new.done self.new.part }
         ensures ok { OnOk result (self.new.done ≡ self.old.done + 1) }
     {
-        if let Happened::Committed(site, change) = &happened[self.done] {
+        if let Made::Committed(site, change) = &happened[self.done] {
             self.finish(alloc, *site, change.as_slice())?;
         }
         self.part = 0;
@@ -116,7 +117,7 @@ impl Contents {
     }
 
     /// Makes the entries that aren't made yet. `Memory` leaves some to be made.
-    pub fn follow(&mut self, alloc: Global, happened: &[Happened]) -> Result<(), Memory>
+    pub fn follow(&mut self, alloc: Global, happened: &[Made]) -> Result<(), Memory>
         requires { IsAt happened.now self.old.cells self.old.done self.old.part }
         ensures at { IsAt happened.now self.new.cells self.new.done self.new.part }
         ensures ok { OnOk result (Holds self.new.cells (λ n. store_after n empty_store happened.now)) }

@@ -2,10 +2,11 @@
 ghost use Rattle.std.specs.Prelude.{◌≡◌, IfOk};
 ghost use Rattle.cell_world.specs.Stores.{own_key};
 
-use crate::contents::Happened;
+use crate::contents::Made;
 use cell_world::cells::{Cell, CellKey};
 use cell_world::changes::{Change, Edit};
-use cell_world::items::{Items, Memory};
+use cell_world::items::Items;
+use cell_world::memory::Memory;
 use std::alloc::Global;
 
 /// The key under which a cell stands.
@@ -61,21 +62,21 @@ pub fn change_copied(change: &Change, alloc: Global) -> Result<Change, Memory>
 }
 
 /// The same entries once more.
-pub fn happened_copied(happened: &[Happened], alloc: Global) -> Result<Vec<Happened>, Memory>
+pub fn happened_copied(happened: &[Made], alloc: Global) -> Result<Vec<Made>, Memory>
     ensures { IfOk result (λ copy. copy.items ≡ happened.now) }
 {
-    let mut copy: Vec<Happened> = Vec::new(alloc);
+    let mut copy: Vec<Made> = Vec::new(alloc);
     for entry in happened {
         let pushed = match entry {
-            Happened::Committed(site, change) => {
+            Made::Committed(site, change) => {
                 let change = change_copied(change, alloc)?;
-                copy.push(Happened::Committed(*site, change)).is_ok()
+                copy.push(Made::Committed(*site, change)).is_ok()
             }
-            Happened::Wrote(bytes) => {
+            Made::Wrote(bytes) => {
                 let bytes = bytes_copied(bytes.as_slice(), alloc)?;
-                copy.push(Happened::Wrote(bytes)).is_ok()
+                copy.push(Made::Wrote(bytes)).is_ok()
             }
-            Happened::Reopened(site) => copy.push(Happened::Reopened(*site)).is_ok(),
+            Made::Reopened(site) => copy.push(Made::Reopened(*site)).is_ok(),
         };
         if !pushed {
             return Err(Memory);
@@ -88,8 +89,5 @@ pub fn happened_copied(happened: &[Happened], alloc: Global) -> Result<Vec<Happe
 pub fn bytes_copied(bytes: &[u8], alloc: Global) -> Result<Items<u8>, Memory>
     ensures { IfOk result (λ copy. copy ≡ bytes.now) }
 {
-    match Vec::from_slice(alloc, bytes) {
-        Ok(copy) => Ok(Items::from_vec(copy)),
-        Err(_) => Err(Memory),
-    }
+    Ok(Items::from_vec(Vec::from_slice(alloc, bytes)?))
 }

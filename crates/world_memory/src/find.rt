@@ -1,15 +1,18 @@
 //! Cells that are looked for by their order.
-ghost use Rattle.std.specs.Prelude.{◌≡◌, ◌↔◌, ◌∷◌, [], ℕ, replicate, IfOk, IsTrue};
+ghost use Rattle.std.specs.Prelude.{◌≡◌, ◌↔◌, ℕ, replicate, IfOk, IsTrue};
 ghost use Rattle.std.specs.Option.{option_copied};
-ghost use Rattle.cell_world.specs.Finding.{IsFloor, IsScan, IsNextKey, kind_number, map_of};
+ghost use Rattle.cell_world.specs.Finding.{IsFloor, IsScan, IsNextKey};
+ghost use Rattle.cell_world.specs.Orders.{kind_number, map_of};
 ghost use Rattle.cell_world.specs.Stores.{Store, IsStore, IsKeyed, cell_at};
+ghost use Rattle.cell_world.specs.declared.limits.TheConstants.{NAME_BYTES};
 ghost use Rattle.world_memory.specs.First.{IsFirst, begin_at, row_within, beside};
 ghost use Rattle.world_memory.specs.Kept.{Holds};
 
 use crate::contents::SiteKey;
 use crate::copies::{cell_copied, key_of};
 use cell_world::cells::{Cell, CellKey, RowName, Site};
-use cell_world::items::Memory;
+use cell_world::limits::NAME_BYTES;
+use cell_world::memory::Memory;
 use cell_world::names::Name;
 use cell_world::norm_keys::NormKey;
 use std::alloc::Global;
@@ -161,18 +164,11 @@ pub fn scan(
     Ok(found)
 }
 
-/// The least name.
-fn least_name() -> Name
-    ensures { result ≡ 65 ∷ [] }
-{
-    Name::read(b"A").unwrap()
-}
-
 /// The greatest name.
 fn greatest_name() -> Name
-    ensures { result ≡ replicate 32 122 }
+    ensures { result ≡ replicate NAME_BYTES 122 }
 {
-    Name::read(&[b'z'; 32]).unwrap()
+    Name::read(&[b'z'; NAME_BYTES]).unwrap()
 }
 
 /// The name of a row, if this is one.
@@ -200,7 +196,7 @@ fn beside(map: &Name, key: &NormKey, past: bool) -> RowName
         RowName {
             map: *map,
             key: *key,
-            table: least_name(),
+            table: Name::least(),
             number: 0,
         }
     }

@@ -46,11 +46,11 @@ fn what_is_committed_is_read(rt: HostRuntime) -> Result<(), Fail> {
     let mut world = empty_world(rt.alloc())?;
     let lines = name(b"lines")?;
     let at = CellKey::Table(name(b"orders")?, lines);
-    let before = world.read(rt.alloc(), Site(0), &at)?;
+    let before = world.read(rt.alloc(), Site::GLOBAL, &at)?;
     assert!(rt; before.is_none());
     let change = tables(rt.alloc())?;
-    world.commit(rt.alloc(), Site(0), &change)?;
-    let found = world.read(rt.alloc(), Site(0), &at)?;
+    world.commit(rt.alloc(), Site::GLOBAL, &change)?;
+    let found = world.read(rt.alloc(), Site::GLOBAL, &at)?;
     assert!(rt; is_table(&found, &lines));
     Ok(())
 }
@@ -59,9 +59,9 @@ fn what_is_committed_is_read(rt: HostRuntime) -> Result<(), Fail> {
 fn cells_are_found_by_their_order(rt: HostRuntime) -> Result<(), Fail> {
     let mut world = empty_world(rt.alloc())?;
     let change = tables(rt.alloc())?;
-    world.commit(rt.alloc(), Site(0), &change)?;
+    world.commit(rt.alloc(), Site::GLOBAL, &change)?;
     let map = name(b"orders")?;
-    let found = world.floor(rt.alloc(), Site(0), &CellKey::Table(map, name(b"m")?))?;
+    let found = world.floor(rt.alloc(), Site::GLOBAL, &CellKey::Table(map, name(b"m")?))?;
     assert!(rt; is_table(&found, &name(b"lines")?));
     Ok(())
 }
@@ -70,11 +70,11 @@ fn cells_are_found_by_their_order(rt: HostRuntime) -> Result<(), Fail> {
 fn a_scan_stops_at_its_limit(rt: HostRuntime) -> Result<(), Fail> {
     let mut world = empty_world(rt.alloc())?;
     let change = tables(rt.alloc())?;
-    world.commit(rt.alloc(), Site(0), &change)?;
+    world.commit(rt.alloc(), Site::GLOBAL, &change)?;
     let from = CellKey::Table(name(b"a")?, name(b"a")?);
-    let one = world.scan(rt.alloc(), Site(0), &from, 1)?;
+    let one = world.scan(rt.alloc(), Site::GLOBAL, &from, 1)?;
     assert!(rt; one.len() == 1);
-    let all = world.scan(rt.alloc(), Site(0), &from, 9)?;
+    let all = world.scan(rt.alloc(), Site::GLOBAL, &from, 9)?;
     assert!(rt; all.len() == 2);
     Ok(())
 }
@@ -101,12 +101,12 @@ fn rows(alloc: Global) -> Result<Change, Fail> {
 fn the_next_key_is_past_all_rows_of_a_key(rt: HostRuntime) -> Result<(), Fail> {
     let mut world = empty_world(rt.alloc())?;
     let change = rows(rt.alloc())?;
-    world.commit(rt.alloc(), Site(0), &change)?;
+    world.commit(rt.alloc(), Site::GLOBAL, &change)?;
     let map = name(b"orders")?;
     let one = key(&[1])?;
-    let at = world.next_key(rt.alloc(), Site(0), &map, &one, false)?;
+    let at = world.next_key(rt.alloc(), Site::GLOBAL, &map, &one, false)?;
     assert!(rt; at == Some(one));
-    let past = world.next_key(rt.alloc(), Site(0), &map, &one, true)?;
+    let past = world.next_key(rt.alloc(), Site::GLOBAL, &map, &one, true)?;
     assert!(rt; past == Some(key(&[5])?));
     Ok(())
 }
@@ -115,7 +115,7 @@ fn the_next_key_is_past_all_rows_of_a_key(rt: HostRuntime) -> Result<(), Fail> {
 fn what_is_written_is_the_output(rt: HostRuntime) -> Result<(), Fail> {
     let mut world = empty_world(rt.alloc())?;
     world.write(rt.alloc(), b"ab")?;
-    world.reopen(rt.alloc(), Site(0))?;
+    world.reopen(rt.alloc(), Site::GLOBAL)?;
     world.write(rt.alloc(), b"cd")?;
     let bytes = world.output(rt.alloc())?;
     assert!(rt; bytes.as_slice() == b"abcd".as_slice());
@@ -127,7 +127,7 @@ fn what_is_written_is_the_output(rt: HostRuntime) -> Result<(), Fail> {
 fn a_crash_leaves_what_stood_then(rt: HostRuntime) -> Result<(), Fail> {
     let mut world = empty_world(rt.alloc())?;
     let change = tables(rt.alloc())?;
-    world.commit(rt.alloc(), Site(0), &change)?;
+    world.commit(rt.alloc(), Site::GLOBAL, &change)?;
     let before = tables_in(rt.alloc(), &world, 0)?;
     assert!(rt; before == 0);
     let after = tables_in(rt.alloc(), &world, 1)?;
@@ -142,7 +142,7 @@ fn tables_in(alloc: Global, world: &MemoryWorld, moment: u64) -> Result<usize, F
     }
     let mut crashed = world.crashed(alloc, moment)?;
     let from = CellKey::Table(name(b"a")?, name(b"a")?);
-    let found = crashed.scan(alloc, Site(0), &from, 9)?;
+    let found = crashed.scan(alloc, Site::GLOBAL, &from, 9)?;
     Ok(found.len())
 }
 
@@ -153,7 +153,7 @@ fn input_is_taken_in_parts(rt: HostRuntime) -> Result<(), Fail> {
     assert!(rt; source.take(rt.alloc(), &mut buffer)? == 2);
     assert!(rt; buffer == *b"ab");
     assert!(rt; source.take(rt.alloc(), &mut buffer)? == 1);
-    assert!(rt; buffer == *b"cb");
+    assert!(rt; buffer[0] == b'c');
     assert!(rt; source.take(rt.alloc(), &mut buffer)? == 0);
     Ok(())
 }

@@ -4,17 +4,18 @@ ghost use Rattle.std.specs.List.{IsDistinct, AllByRecursion, position};
 ghost use Rattle.cell_world.specs.Counts.{one_more, last_count};
 ghost use Rattle.cell_world.specs.Keys.{same};
 ghost use Rattle.cell_world.specs.Texts.{is_location};
+ghost use Rattle.cell_world.specs.declared.limits.TheConstants.{MOST_LOCATIONS};
 ghost use Rattle.world_memory.specs.Kept.{IsAt, IsKept};
 ghost use Rattle.world_memory.specs.Told.{wrote};
 ghost use Rattle.world_memory.specs.Facts.{spelled_fact, distinct_fact, kept_fact};
 
-use crate::contents::{Contents, Happened};
+use crate::contents::{Contents, Made};
 use crate::copies::{bytes_copied, change_copied, happened_copied};
 use crate::find::{find, floor, next_key, scan};
 use cell_world::cells::{Cell, CellKey, Site};
 use cell_world::changes::Change;
-use cell_world::items::Memory;
 use cell_world::locations::Location;
+use cell_world::memory::Memory;
 use cell_world::names::Name;
 use cell_world::norm_keys::NormKey;
 use cell_world::outside::{World, WorldError};
@@ -28,14 +29,14 @@ use std::alloc::Global;
 pub struct MemoryWorld {
     locations: Vec<Location>,
     /// All that happened, from empty stores on.
-    happened: Vec<Happened>,
+    happened: Vec<Made>,
     /// How many entries were before the trail begins.
     start: usize,
     contents: Contents,
     reads: u64,
     ghost spelled: { AllByRecursion (λ location. IsTrue (is_location location)) locations.items } by { spelled_fact locations.items },
     ghost distinct: { IsDistinct same locations.items } by { distinct_fact locations.items },
-    ghost few: { length locations.items ≤ 64 },
+    ghost few: { length locations.items ≤ MOST_LOCATIONS },
     ghost kept: { AllByRecursion IsKept happened.items } by { kept_fact happened.items },
     ghost within: { start ≤ length happened.items },
     ghost at: { IsAt happened.items contents.cells contents.done contents.part },
@@ -73,11 +74,11 @@ fn counted(reads: u64, site: Site) -> u64
 }
 
 /// The bytes that an entry wrote.
-fn bytes_of(entry: &Happened) -> &[u8]
+fn bytes_of(entry: &Made) -> &[u8]
     ensures { result.now ≡ wrote (entry.now ∷ []) }
 {
     match entry {
-        Happened::Wrote(bytes) => bytes.as_slice(),
+        Made::Wrote(bytes) => bytes.as_slice(),
         _ => &[],
     }
 }
@@ -94,14 +95,12 @@ impl MemoryWorld {
     /// Empty stores, the global one and one for each location, in which nothing happened yet.
     pub fn new(alloc: Global, locations: &[Location]) -> Result<MemoryWorld, Memory>
         requires distinct { IsDistinct same locations.now }
-        requires few { length locations.now ≤ 64 }
+        requires few { length locations.now ≤ MOST_LOCATIONS }
         ensures empty { IfOk result (λ world. outside_of world ≡ fresh locations.now (empty_image locations.now)) }
         ensures counts { IfOk result (λ world. IsNewWorld (outside_of world)) }
     {
         known_locations(locations);
-        let Ok(locations) = Vec::from_slice(alloc, locations) else {
-            return Err(Memory);
-        };
+        let locations = Vec::from_slice(alloc, locations)?;
         Ok(MemoryWorld {
             locations,
             happened: Vec::new(alloc),
@@ -119,9 +118,7 @@ impl MemoryWorld {
         ensures counts { IfOk result (λ world. IsNewWorld (outside_of world)) }
     {
         let start = self.start + moment as usize;
-        let Ok(locations) = Vec::from_slice(alloc, self.locations.as_slice()) else {
-            return Err(Memory);
-        };
+        let locations = Vec::from_slice(alloc, self.locations.as_slice())?;
         let happened = happened_copied(&self.happened[..start], alloc)?;
         Ok(MemoryWorld {
             locations,
@@ -139,10 +136,8 @@ impl MemoryWorld {
         ensures cause { result ≡ Err WorldError.Failed → ⊥ }
     {
         self.reads = counted(self.reads, site);
-        match self.contents.follow(alloc, self.happened.as_slice()) {
-            Ok(()) => Ok(()),
-            Err(_) => Err(WorldError::Memory),
-        }
+        self.contents.follow(alloc, self.happened.as_slice())?;
+        Ok(())
     }
 
     /// The bytes that were written.
@@ -181,35 +176,29 @@ impl World for MemoryWorld {
         key: &CellKey,
     ) -> Result<Option<Cell>, WorldError> {
         self.follow(alloc, site)?;
-        match find(&self.contents.cells, alloc, site, key) {
-            Ok(found) => Ok(found),
-            Err(_) => Err(WorldError::Memory),
-        }
+        let found = find(&self.contents.cells, alloc, site, key)?;
+        Ok(found)
     }
 
     fn commit(&mut self, alloc: Global, site: Site, change: &Change) -> Result<(), WorldError> {
         change.known();
-        let Ok(copy) = change_copied(change, alloc) else {
-            return Err(WorldError::Memory);
-        };
-        if self.happened.push(Happened::Committed(site, copy)).is_err() {
+        let copy = change_copied(change, alloc)?;
+        if self.happened.push(Made::Committed(site, copy)).is_err() {
             return Err(WorldError::Memory);
         }
         Ok(())
     }
 
     fn write(&mut self, alloc: Global, bytes: &[u8]) -> Result<(), WorldError> {
-        let Ok(copy) = bytes_copied(bytes, alloc) else {
-            return Err(WorldError::Memory);
-        };
-        if self.happened.push(Happened::Wrote(copy)).is_err() {
+        let copy = bytes_copied(bytes, alloc)?;
+        if self.happened.push(Made::Wrote(copy)).is_err() {
             return Err(WorldError::Memory);
         }
         Ok(())
     }
 
     fn reopen(&mut self, alloc: Global, site: Site) -> Result<(), WorldError> {
-        if self.happened.push(Happened::Reopened(site)).is_err() {
+        if self.happened.push(Made::Reopened(site)).is_err() {
             return Err(WorldError::Memory);
         }
         Ok(())
@@ -226,10 +215,8 @@ impl World for MemoryWorld {
         key: &CellKey,
     ) -> Result<Option<Cell>, WorldError> {
         self.follow(alloc, site)?;
-        match floor(&self.contents.cells, alloc, site, key) {
-            Ok(found) => Ok(found),
-            Err(_) => Err(WorldError::Memory),
-        }
+        let found = floor(&self.contents.cells, alloc, site, key)?;
+        Ok(found)
     }
 
     fn scan(
@@ -240,10 +227,8 @@ impl World for MemoryWorld {
         limit: u32,
     ) -> Result<Vec<Cell>, WorldError> {
         self.follow(alloc, site)?;
-        match scan(&self.contents.cells, alloc, site, from, limit) {
-            Ok(found) => Ok(found),
-            Err(_) => Err(WorldError::Memory),
-        }
+        let found = scan(&self.contents.cells, alloc, site, from, limit)?;
+        Ok(found)
     }
 
     fn next_key(

@@ -3,6 +3,7 @@ use Rattle.std.specs.List.{AllByRecursion, IsDistinct}
 use Rattle.std.proofs.lemmas.List.{length-take-le}
 use Rattle.cell_world.specs.Keys.{same}
 use Rattle.cell_world.specs.Texts.{Text, is_location}
+use Rattle.cell_world.specs.declared.limits.TheConstants.{MOST_LOCATIONS}
 use Rattle.world_memory.specs.Kept.{IsKept}
 use Rattle.world_memory.specs.Told.{tells, trail_from}
 use Rattle.world_memory.proofs.Trails.{moments, crash, kept_take}
@@ -23,11 +24,11 @@ invariant_of-result c =
     let m = moments c.args.self.now.locations.items c.args.self.now.happened.items c.args.self.now.start c.args.self.now.within in
     let n : c.args.self.now.start + c.args.moment ≤ length c.args.self.now.happened.items = omega (arith, m, c.requires) in
     let len = length-take-le (c.args.self.now.start + c.args.moment) c.args.self.now.happened.items n in
-    let places : c.in-Ok.locations.items ≡ c.args.self.now.locations.items = c.in-Ok.ensures.items ∙ c.as_slice.ensures.value in
+    let places : c.in_ok-locations.locations.items ≡ c.args.self.now.locations.items = c.in_ok-locations.ensures.items ∙ c.as_slice.ensures.value in
     record {
       spelled = subst (λ xs. AllByRecursion (λ location. IsTrue (is_location location)) xs) (sym places) c.args.self.now.spelled;
       distinct = subst (IsDistinct same) (sym places) c.args.self.now.distinct;
-      few = subst (λ (xs : List Text). length xs ≤ 64) (sym places) c.args.self.now.few;
+      few = subst (λ (xs : List Text). length xs ≤ MOST_LOCATIONS) (sym places) c.args.self.now.few;
       kept = subst (AllByRecursion IsKept) (sym copied) (kept_take c.args.self.now.happened.items (c.args.self.now.start + c.args.moment) c.args.self.now.kept);
       within = omega (arith, len, ap length copied);
       at = c.new.ensures _;
@@ -37,6 +38,6 @@ invariant_of-result c =
 pub returns-clause-image : goal.returns-clause-image
 returns-clause-image c =
     let copied : c.in_ok-happened.happened.items ≡ take (c.args.self.now.start + c.args.moment) c.args.self.now.happened.items = c.in_ok-happened.ensures ∙ ap (take (c.args.self.now.start + c.args.moment)) c.deref.ensures.value in
-    let places : c.in-Ok.locations.items ≡ c.args.self.now.locations.items = c.in-Ok.ensures.items ∙ c.as_slice.ensures.value in
+    let places : c.in_ok-locations.locations.items ≡ c.args.self.now.locations.items = c.in_ok-locations.ensures.items ∙ c.as_slice.ensures.value in
     (λ i. tells (places i) (trail_from (places i) (copied i) (c.args.self.now.start + c.args.moment)) 0)
     ∙ crash c.args.self.now.locations.items c.args.self.now.happened.items c.args.self.now.start c.args.moment

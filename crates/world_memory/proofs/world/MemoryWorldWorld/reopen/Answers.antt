@@ -1,5 +1,5 @@
 use Rattle.std.specs.Result.{is_ok}
-use Rattle.world_memory.specs.declared.contents.Happened.TheVariants as kept
+use Rattle.world_memory.specs.declared.contents.Made.TheVariants as kept
 use Rattle.world_memory.proofs.Now.{kept_after, within_after, at_after, has_reopened, pushed}
 use Rattle.world_memory.proofs.world.MemoryWorldWorld.reopen.Goals as goal
 

@@ -1,7 +1,0 @@
--- What operations do to jobs are equal exactly where they are the same.
-use Rattle.std.proofs.Common.{◌≡◌, ◌↔◌, IsTrue, sym, subst}
-use Rattle.cell_world.proofs.Exact.{extras}
-use Rattle.cell_world.proofs.comparing.extra_equals.Goals as goal
-
-pub returns : goal.returns
-returns c = subst (λ r. IsTrue r ↔ c.args.a.now ≡ c.args.b.now) (sym c.eq.ensures) (extras c.args.a.now c.args.b.now)

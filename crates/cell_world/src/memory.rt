@@ -1,0 +1,24 @@
+//! Want of memory.
+ghost use Rattle.std.specs.Prelude.{◌≡◌};
+
+use std::alloc::{AllocError, AllocFailed};
+
+/// Want of memory: the call did nothing, except where it says so.
+#[derive(Clone, Copy, Debug, PartialEq, Eq)]
+pub struct Memory;
+
+impl From<AllocError> for Memory {
+    ghost from_gives = { λ _ e. e ≡ e };
+
+    fn from(_: AllocError) -> Memory {
+        Memory
+    }
+}
+
+impl<T: Drop> From<AllocFailed<T>> for Memory {
+    ghost from_gives = { λ _ e. e ≡ e };
+
+    fn from(_: AllocFailed<T>) -> Memory {
+        Memory
+    }
+}
