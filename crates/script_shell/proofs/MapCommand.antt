@@ -16,7 +16,7 @@ use Rattle.cell_world.specs.declared.cells.MapKind.{MapKind}
 use Rattle.cell_world.specs.declared.cells.KeyType.{KeyType}
 use Rattle.cell_world.specs.declared.cells.MapKind.TheVariants.{Range}
 use Rattle.cell_world.specs.declared.cells.KeyType.TheVariants.{Int}
-use Rattle.image_laws.proofs.MapKeepsSound.{meaning-put_map, map_keeps_sound}
+use Rattle.image_laws.proofs.CatalogCommits.{meaning-put_map, map_keeps_sound}
 use Rattle.plain_model.specs.declared.replies.Refusal.{Refusal}
 use Rattle.plain_model.specs.declared.replies.Refusal.TheVariants as refused
 use Rattle.plain_model.specs.Refusing.{refusal, first_refusal}
