@@ -18,5 +18,3 @@ pub mod operations;
 pub mod outside;
 mod padded;
 pub mod spans;
-#[cfg(test)]
-mod tests;

@@ -10,7 +10,5 @@ pub mod keys;
 pub mod laws;
 mod numbers;
 pub mod reading;
-#[cfg(test)]
-mod tests;
 pub mod values;
 pub mod writing;

@@ -5,6 +5,4 @@ mod contents;
 mod copies;
 mod find;
 pub mod source;
-#[cfg(test)]
-mod tests;
 pub mod world;

@@ -1,7 +1,7 @@
 //! The table of worked keys.
-use crate::faults::KeyFault;
-use crate::reading::read_key;
-use crate::writing::write_key;
+use key_space::faults::KeyFault;
+use key_space::reading::read_key;
+use key_space::writing::write_key;
 use cell_world::cells::KeyType;
 use std::alloc::Global;
 use std::test::Fail;

@@ -1,12 +1,12 @@
 //! The limits at their numbers and one past, and the calls that take memory.
-use crate::cells::{Cell, CellKey, KeyType, MapKind};
-use crate::changes::{Change, Edit};
-use crate::items::{Items, RowBytes};
-use crate::key_texts::KeyText;
-use crate::locations::Location;
-use crate::names::Name;
-use crate::norm_keys::NormKey;
-use crate::spans::{High, Span};
+use cell_world::cells::{Cell, CellKey, KeyType, MapKind};
+use cell_world::changes::{Change, Edit};
+use cell_world::items::{Items, RowBytes};
+use cell_world::key_texts::KeyText;
+use cell_world::locations::Location;
+use cell_world::names::Name;
+use cell_world::norm_keys::NormKey;
+use cell_world::spans::{High, Span};
 use std::test::Fail;
 
 #[test]

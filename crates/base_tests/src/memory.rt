@@ -1,6 +1,6 @@
 //! The calls that take memory, each with enough of it.
-use crate::source::MemorySource;
-use crate::world::MemoryWorld;
+use world_memory::source::MemorySource;
+use world_memory::world::MemoryWorld;
 use cell_world::cells::{Cell, CellKey, RowName, Site};
 use cell_world::changes::Change;
 use cell_world::items::RowBytes;

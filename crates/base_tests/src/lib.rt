@@ -1,0 +1,9 @@
+//! Tests of the base crates by their public calls. They stand here so that the base is proved without them.
+#![tactic(auto)]
+
+#[cfg(test)]
+mod cells;
+#[cfg(test)]
+mod keys;
+#[cfg(test)]
+mod memory;
