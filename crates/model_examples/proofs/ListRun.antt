@@ -6,7 +6,7 @@ use Rattle.cell_world.specs.Images.{Wrote}
 use Rattle.cell_world.specs.Meaning.{meaning}
 use Rattle.cell_world.specs.Plain.{PlainState, holds_nothing, nobody, with_connections}
 use Rattle.cell_world.specs.Sound.{Sound}
-use Rattle.cell_world.proofs.EmptyLaws.{empty_sound}
+use Rattle.image_laws.proofs.EmptyLaws.{empty_sound}
 use Rattle.plain_model.specs.declared.commands.Command.TheVariants as command
 use Rattle.plain_model.specs.declared.finish.RunStatus.TheVariants as status
 use Rattle.plain_model.specs.declared.replies.Refusal.TheVariants as refused

@@ -19,7 +19,7 @@ use Rattle.cell_world.specs.declared.operations.JobRow.{JobRow}
 use Rattle.cell_world.specs.declared.operations.Extra.TheVariants as extra
 use Rattle.cell_world.specs.declared.operations.Phase.TheVariants.{Idle, Copying, Moved}
 use Rattle.cell_world.specs.declared.spans.High.TheVariants.{At}
-use Rattle.cell_world.proofs.MeaningLaws.{get-rows}
+use Rattle.image_laws.proofs.MeaningLaws.{get-rows}
 use Rattle.cell_world.proofs.OrderLaws.{rows_total, exact_rows}
 use Rattle.cell_world.proofs.StoreLaws.{get-insert_same, get-remove_same}
 use Rattle.plain_model.specs.JobSteps.{stepped, is_moved}

@@ -34,7 +34,7 @@ use Rattle.cell_world.specs.declared.spans.High.TheVariants.{At}
 use Rattle.cell_world.specs.declared.spans.Span.{Span}
 use Rattle.cell_world.specs.declared.spans.Span.TheVariants.{Range}
 use Rattle.cell_world.proofs.OrderLaws.{pairs_total, exact_text_pairs}
-use Rattle.cell_world.proofs.OwnerLaws.{owner_stands}
+use Rattle.image_laws.proofs.OwnerLaws.{owner_stands}
 use Rattle.world_examples.specs.Examples.{map_m, site_a, maps_m, keyed_pieces, mappings_of, log_of, jobs_of, locals_of, rows_of, owner_with, away_of, sites_ab, keyed_jobs}
 use Rattle.world_examples.proofs.Tables.{get_of}
 use Rattle.world_examples.proofs.Standing.{standing, m_stands, is_int, each_alone}

@@ -30,7 +30,7 @@ use Rattle.cell_world.specs.declared.spans.Span.{Span}
 use Rattle.cell_world.specs.declared.spans.Span.TheVariants.{Range}
 use Rattle.cell_world.proofs.OrderLaws.{exact_text_pairs, tied_is}
 use Rattle.cell_world.proofs.SpanLaws.{same_is, overlaps_shared}
-use Rattle.cell_world.proofs.OwnerLaws.{PlacedAlone, AllDisjoint, owner_is, owner_stands}
+use Rattle.image_laws.proofs.OwnerLaws.{PlacedAlone, AllDisjoint, owner_is, owner_stands}
 use Rattle.world_examples.specs.Examples.{map_m, entries_m, maps_m, keyed_pieces, mappings_of}
 use Rattle.world_examples.proofs.Tables.{get_of}
 

@@ -17,7 +17,7 @@ use Rattle.cell_world.specs.declared.cells.RowName.{RowName}
 use Rattle.cell_world.specs.declared.operations.Piece.{Piece}
 use Rattle.cell_world.proofs.OrderLaws.{rows_total, exact_rows, tied_is, tied}
 use Rattle.cell_world.proofs.SpanLaws.{same_is, same_self}
-use Rattle.cell_world.proofs.MeaningLaws.{get-rows}
+use Rattle.image_laws.proofs.MeaningLaws.{get-rows}
 
 -- The rows at one site are changed.
 module _ (image : Image) (location : Text) (rows : Rows) where

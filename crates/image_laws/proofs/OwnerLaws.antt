@@ -15,7 +15,7 @@ use Rattle.cell_world.specs.declared.cells.MapKind.{MapKind}
 use Rattle.cell_world.specs.declared.cells.KeyType.{KeyType}
 use Rattle.cell_world.proofs.OrderLaws.{pairs_total}
 use Rattle.cell_world.proofs.SpanLaws.{same_is, same_self, overlaps_shared}
-use Rattle.cell_world.proofs.ValueLaws.{value_found, value_there}
+use Rattle.image_laws.proofs.ValueLaws.{value_found, value_there}
 
 -- each mapping stands under its own key
 abbrev pub PlacedAlone : Mappings → Type 0

@@ -27,8 +27,8 @@ use Rattle.cell_world.specs.declared.cells.KeyType.{KeyType}
 use Rattle.cell_world.proofs.OrderLaws.{exact_texts, tied_is}
 use Rattle.cell_world.proofs.StoreLaws.{get-insert_other}
 use Rattle.cell_world.proofs.KeyedLaws.{keyed_put}
-use Rattle.cell_world.proofs.OwnerLaws.{PlacedAlone, found_stands}
-use Rattle.cell_world.proofs.MeaningLaws.{same_rows}
+use Rattle.image_laws.proofs.OwnerLaws.{PlacedAlone, found_stands}
+use Rattle.image_laws.proofs.MeaningLaws.{same_rows}
 
 -- ---- maps, and one more
 

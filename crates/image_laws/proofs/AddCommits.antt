@@ -32,8 +32,8 @@ use Rattle.cell_world.proofs.OrderLaws.{pairs_total, exact_text_pairs}
 use Rattle.cell_world.proofs.StoreLaws.{get-insert_other, get-insert_cases}
 use Rattle.cell_world.proofs.SpanLaws.{overlaps_shared, overlaps_comm, holds_low}
 use Rattle.cell_world.proofs.KeyedLaws.{keyed-insert}
-use Rattle.cell_world.proofs.OwnerLaws.{PlacedAlone, AllDisjoint, owner_is, owner_stands, owner_key}
-use Rattle.cell_world.proofs.MeaningLaws.{same_rows}
+use Rattle.image_laws.proofs.OwnerLaws.{PlacedAlone, AllDisjoint, owner_is, owner_stands, owner_key}
+use Rattle.image_laws.proofs.MeaningLaws.{same_rows}
 
 -- ---- mappings, and one more that touches none of them
 
