@@ -1,8 +1,12 @@
 pub mod AddCommits
+pub mod CatalogChanges
+pub mod CatalogLaws
 pub mod EmptyLaws
+pub mod Lists
 pub mod LogKeepsSound
-pub mod MapKeepsSound
+pub mod CatalogCommits
 pub mod MeaningLaws
 pub mod OwnerLaws
+pub mod Places
 pub mod RowLaws
 pub mod ValueLaws

@@ -1,28 +1,19 @@
 //! What keeps an image sound. Each law is the contract of a function that does nothing.
-ghost use Rattle.std.specs.Prelude.{◌≡◌, ◌<◌, ◌+◌, ◌^◌, false, List, [], ◌∷◌, None};
-ghost use Rattle.std.specs.FinMap as map;
+ghost use Rattle.std.specs.Prelude.{◌≡◌, ◌<◌, ◌+◌, ◌^◌, false, List, [], ◌∷◌};
 ghost use Rattle.cell_world.specs.Texts.{Text};
-ghost use Rattle.cell_world.specs.Stores.{put, changed};
+ghost use Rattle.cell_world.specs.Stores.{changed};
 ghost use Rattle.cell_world.specs.Images.{Image, Global, global, with_store, empty_image};
 ghost use Rattle.cell_world.specs.Meaning.{next_operation, next_job};
 ghost use Rattle.cell_world.specs.Operations.{conflicts, reach_of};
 ghost use Rattle.cell_world.specs.Lawful.{Lawful};
 ghost use Rattle.cell_world.specs.Sound.{Sound, HasLog};
 ghost use Rattle.cell_world.specs.declared.operations.Op.{Op};
-ghost use Rattle.cell_world.specs.declared.cells.KeyType.{KeyType};
-ghost use Rattle.cell_world.specs.declared.cells.MapKind.{MapKind};
 ghost use Rattle.cell_world.specs.declared.cells.Cell.TheVariants as cell;
 ghost use Rattle.cell_world.specs.declared.changes.Edit.TheVariants.{Put};
 
 /// Empty stores are sound.
 pub fn empty_is_sound()
     ensures { (locations : List Text) → Sound (empty_image locations) }
-{}
-
-/// A map cell of a new name keeps an image sound.
-pub fn map_keeps_sound()
-    ensures { (image : Image) → Sound image → (name : Text) (kind : MapKind) (type : KeyType) → map.get (global image).maps name ≡ None →
-        Sound (with_store image Global (put (global image) (cell.Map name kind type))) }
 {}
 
 /// The log row of a lawful operation that has the next number and conflicts with no logged operation keeps an image sound, where the counter is raised past it.

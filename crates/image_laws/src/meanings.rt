@@ -1,5 +1,5 @@
 //! What an image stands for, and what a change of one store changes of it. Each law is the contract of a function that does nothing.
-ghost use Rattle.std.specs.Prelude.{◌≡◌, ◌+◌, [], ◌∷◌, Some, None};
+ghost use Rattle.std.specs.Prelude.{◌≡◌, ◌+◌, [], ◌∷◌, Some};
 ghost use Rattle.std.specs.FinMap as map;
 ghost use Rattle.cell_world.specs.Texts.{Text};
 ghost use Rattle.cell_world.specs.Spelled.{listed};
@@ -10,8 +10,6 @@ ghost use Rattle.cell_world.specs.Lawful.{Lawful};
 ghost use Rattle.cell_world.specs.Sound.{Sound, IsAttachedIn};
 ghost use Rattle.cell_world.specs.declared.operations.Piece.{Piece};
 ghost use Rattle.cell_world.specs.declared.operations.Op.{Op};
-ghost use Rattle.cell_world.specs.declared.cells.KeyType.{KeyType};
-ghost use Rattle.cell_world.specs.declared.cells.MapKind.{MapKind};
 ghost use Rattle.cell_world.specs.declared.cells.RowName.{RowName};
 ghost use Rattle.cell_world.specs.declared.cells.Cell.TheVariants as cell;
 ghost use Rattle.cell_world.specs.declared.cells.CellKey.TheVariants as at;
@@ -28,12 +26,6 @@ pub fn meaning_of_a_row()
         meaning (with_store image (Shard p.location) (put (image.at (Shard p.location)) (cell.Row row bytes))) ≡ record (meaning image) { rows = map.insert (meaning image).rows row bytes } }
     ensures deleted { (image : Image) (row : RowName) (p : Piece) → owner_of image row.map row.key ≡ Some p → IsAttachedIn image p.location →
         meaning (with_store image (Shard p.location) (delete (image.at (Shard p.location)) (at.Row row))) ≡ record (meaning image) { rows = map.remove (meaning image).rows row } }
-{}
-
-/// The commit of a map cell of a new name puts the map into the meaning, and nothing else changes there.
-pub fn meaning_of_a_map()
-    ensures { (image : Image) → Sound image → (name : Text) (kind : MapKind) (type : KeyType) → map.get (global image).maps name ≡ None →
-        meaning (with_store image Global (put (global image) (cell.Map name kind type))) ≡ record (meaning image) { maps = map.insert (meaning image).maps name (kind, type) } }
 {}
 
 /// The log row of an operation and a raised operation counter change nothing of the meaning.

@@ -11,7 +11,7 @@ use Rattle.cell_world.specs.declared.cells.KeyType.TheVariants.{Int}
 use Rattle.cell_world.specs.declared.cells.MapKind.{MapKind}
 use Rattle.cell_world.specs.declared.cells.MapKind.TheVariants as kind
 use Rattle.image_laws.proofs.EmptyLaws.{empty_sound}
-use Rattle.image_laws.proofs.MapKeepsSound.{meaning-put_map, map_keeps_sound}
+use Rattle.image_laws.proofs.CatalogCommits.{meaning-put_map, map_keeps_sound}
 use Rattle.plain_model.specs.declared.replies.Reply.TheVariants as reply
 use Rattle.plain_model.specs.declared.replies.Refusal.TheVariants as refused
 use Rattle.plain_model.specs.Legal.{Legal, MayEnter}

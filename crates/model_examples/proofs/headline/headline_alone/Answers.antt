@@ -7,7 +7,7 @@ use Rattle.cell_world.specs.declared.cells.KeyType.{KeyType}
 use Rattle.cell_world.specs.declared.cells.KeyType.TheVariants.{Int}
 use Rattle.cell_world.specs.declared.cells.MapKind.{MapKind}
 use Rattle.cell_world.specs.declared.cells.MapKind.TheVariants as kind
-use Rattle.image_laws.proofs.MapKeepsSound.{map_keeps_sound}
+use Rattle.image_laws.proofs.CatalogCommits.{map_keeps_sound}
 use Rattle.plain_model.specs.declared.finish.RunStatus.TheVariants as status
 use Rattle.plain_model.specs.Headline.{IsLegalByStates}
 use Rattle.cell_world.specs.Outside.{TellsNothing, TellsContents}
