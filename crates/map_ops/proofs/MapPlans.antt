@@ -18,7 +18,7 @@ use Rattle.cell_world.specs.declared.changes.Edit.{Edit}
 use Rattle.cell_world.specs.declared.changes.Edit.TheVariants.{Put}
 use Rattle.cell_world.specs.declared.operations.Reach.TheVariants as reach
 use Rattle.cell_world.proofs.ContentsLaws.{contents_weaker, contents_both, contents_store}
-use Rattle.image_laws.proofs.MapKeepsSound.{meaning-put_map, map_keeps_sound}
+use Rattle.image_laws.proofs.CatalogCommits.{meaning-put_map, map_keeps_sound}
 use Rattle.plain_model.specs.declared.commands.Command.{Command}
 use Rattle.plain_model.specs.declared.commands.Command.TheVariants as command
 use Rattle.plain_model.specs.declared.plans.Plan.TheVariants as plan
