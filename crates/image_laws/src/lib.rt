@@ -4,3 +4,4 @@
 pub mod catalogs;
 pub mod keeping;
 pub mod meanings;
+pub mod operations;
