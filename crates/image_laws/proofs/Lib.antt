@@ -16,11 +16,13 @@ pub mod JobRange
 pub mod JobSame
 pub mod JobSteps
 pub mod JobTable
+pub mod KeptKeys
 pub mod Lists
 pub mod LocalImages
 pub mod LogKeepsSound
 pub mod MarkingLaws
 pub mod MeaningLaws
+pub mod NoMarks
 pub mod OthersStay
 pub mod OwnerLaws
 pub mod Places
@@ -29,6 +31,7 @@ pub mod RowEdits
 pub mod RowLaws
 pub mod ShapeLaws
 pub mod ShapeRows
+pub mod SiteLaws
 pub mod SoundParts
 pub mod StaysLawful
 pub mod StepImages

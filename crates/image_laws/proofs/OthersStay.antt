@@ -95,7 +95,7 @@ settle_back q was row New m e = by (eqb_tells was.number q) e
 -- Settling q leaves the step of p done, and no row gets a name.
 module _ (q : ℕ) (before after : Locals) (settled : IsSettled q before after) where
   -- what settling makes of each row
-  settle_row : (row : LocalRow) → HasLocal after row → (was : LocalRow) × HasLocal before was × ((row ≡ was) ⊎ ((row ≡ marked_as Plain was) × (was.mark ≡ New) × (was.number ≡ q)))
+  pub settle_row : (row : LocalRow) → HasLocal after row → (was : LocalRow) × HasLocal before was × ((row ≡ was) ⊎ ((row ≡ marked_as Plain was) × (was.mark ≡ New) × (was.number ≡ q)))
   settle_row row h = option_and_then_some (settle q) (map.get before (local_key row)) row (sym (settled (local_key row)) ∙ h) (λ was at e.
       let b = settle_back q was row was.mark refl e in
       (was, ap (map.get before) (key_of was row b) ∙ at, b))

@@ -14,6 +14,7 @@ use Rattle.cell_world.proofs.KeyedLaws.{keyed-insert, keyed-remove}
 use Rattle.image_laws.specs.LocalSteps.{AreKeyed}
 use Rattle.image_laws.specs.RowEdits.{edit_to, edits_by, AreDistinct, AreScanned}
 use Rattle.image_laws.proofs.CommitEdits.{changed-append}
+use Rattle.image_laws.proofs.KeptKeys.{KeepsKeys}
 
 abbrev pub put_in : Locals → LocalRow → Option LocalRow → Locals
 put_in m row None = map.remove m (local_key row)
@@ -34,10 +35,6 @@ changed-rows s f (row ∷ rows) =
     changed-append s (edit_to row (f row)) (edits_by f rows)
     ∙ ap (λ (x : Store). changed x (edits_by f rows)) (edited_one s row (f row))
     ∙ changed-rows (record s { locals = put_in s.locals row (f row) }) f rows
-
--- a change of a row keeps its key
-abbrev pub KeepsKeys : (LocalRow → Option LocalRow) → Type 0
-KeepsKeys f = (row now : LocalRow) → f row ≡ Some now → local_key now ≡ local_key row
 
 module _ (f : LocalRow → Option LocalRow) (keeps : KeepsKeys f) where
   put_there : (m : Locals) (row : LocalRow) → map.get (put_in m row (f row)) (local_key row) ≡ f row

@@ -19,13 +19,14 @@ use Rattle.cell_world.specs.declared.cells.LocalRow.{LocalRow}
 use Rattle.cell_world.specs.declared.cells.Mark.{Mark}
 use Rattle.cell_world.specs.declared.cells.Mark.TheVariants.{Plain, Old, New}
 use Rattle.cell_world.proofs.KeyedLaws.{keyed-remove}
-use Rattle.cell_world.specs.Sweep.{IsSwept, IsSweptPlain, marked_as}
+use Rattle.cell_world.specs.Sweep.{sweep, IsSwept, IsSweptPlain, marked_as}
 use Rattle.cell_world.specs.UnderWay.{IsUnborn, IsDone}
 use Rattle.cell_world.proofs.ListLaws.{all_from}
 use Rattle.image_laws.specs.Fits.{Fits, AreLogged}
-use Rattle.image_laws.specs.LocalSteps.{AreKeyed, without_log_row, AreBorn, settle, settle_as, IsSettled, with_locals}
+use Rattle.image_laws.specs.LocalSteps.{without_log_row, settle, settle_as, IsStepped, IsUndone, IsSettled, with_locals}
 use Rattle.image_laws.proofs.CommitImages.{place_of}
-use Rattle.image_laws.proofs.CommitSites.{IsElsewhere, unlogged_gives, old_of_mark, new_of_mark}
+use Rattle.image_laws.proofs.CommitSites.{unlogged_gives}
+use Rattle.image_laws.proofs.KeptKeys.{keeps_keyed, sweep_keeps, settle_keeps}
 use Rattle.image_laws.proofs.LocalImages.{local_sound}
 use Rattle.image_laws.proofs.MarkingLaws.{marked_from_done}
 use Rattle.image_laws.proofs.Places.{old_attached, new_attached}
@@ -54,21 +55,25 @@ module _ (image : Image) (sound : Sound image) (op : Op) (logged : HasLog (globa
 
   -- ---- one site
 
-  -- The step at a site where no row has the operation's name keeps an image sound.
-  pub step_sound : (l : Text) → IsAttachedIn image l → IsUnborn op.number (locals l) → (middle after : Locals) → IsSwept g.log op (Old op.number) (locals l) middle → AreBorn op.number l (listed op.news) middle after → AreKeyed after → Sound (with_locals image l after)
-  step_sound l here unborn middle after swept born keyed =
+  -- The local step at a site where the operation is unborn keeps an image sound.
+  pub step_sound : (l : Text) → IsAttachedIn image l → IsUnborn op.number (locals l) → (after : Locals) → IsStepped g.log op l (locals l) after → Sound (with_locals image l after)
+  step_sound l here unborn after stepped =
+      let middle = stepped.middle in
+      let swept = stepped.swept in
+      let born = stepped.born in
       let k = old_is_sweep g.log op logged in
       let free = unborn_swept g.log op (Old op.number) (locals l) middle op.number swept unborn in
       let s = sound.locals l here in
       let s1 = swept_locals g.maps g.mappings g.log (next_operation image) op fit logged numbered l (Old op.number) k (locals l) middle swept s in
       let o1 = swept_online g.maps g.mappings g.log (next_operation image) op fit logged numbered l (owner_of image) (Old op.number) k (locals l) middle swept s (sound.online l here) in
-      local_sound image l after here sound keyed
+      local_sound image l after here sound stepped.keyed
       (born_locals g.maps g.mappings g.log (next_operation image) op fit logged numbered l middle after born free s1)
       (born_online g.maps g.mappings g.log (next_operation image) op fit logged numbered l middle after born free maps_ok o1)
 
   -- Undo's sweep at a site keeps an image sound.
-  pub undo_sound : (l : Text) → IsAttachedIn image l → (after : Locals) → IsSwept g.log op Plain (locals l) after → AreKeyed after → Sound (with_locals image l after)
-  undo_sound l here after swept keyed =
+  pub undo_sound : (l : Text) → IsAttachedIn image l → (after : Locals) → IsSwept g.log op Plain (locals l) after → Sound (with_locals image l after)
+  undo_sound l here after swept =
+      let keyed = keeps_keyed (sweep g.log op Plain) (sweep_keeps g.log op Plain) (locals l) after swept (sound.keyed (Shard l)).locals in
       let k = plain_is_sweep g.log op in
       let s = sound.locals l here in
       local_sound image l after here sound keyed
@@ -83,11 +88,11 @@ module _ (image : Image) (sound : Sound image) (op : Op) (logged : HasLog (globa
   pub undone_meaning : meaning unlogged ≡ meaning image
   undone_meaning = refl
 
-  free_at : ((p : Piece) → IsOneOf (listed op.olds) p → IsSweptPlain op (locals p.location)) → ((p : Piece) → IsOneOf (listed op.news) p → IsSweptPlain op (locals p.location)) → (l : Text) → IsAttachedIn image l → IsFree g.maps g.mappings op l (locals l)
-  free_at olds news l here = elim (place_of (listed op.olds) l) [
-    | inl o ↦ by (subst (λ x. IsSweptPlain op (locals x)) o.2 (olds o.0 o.1))
+  free_at : IsUndone image op → (l : Text) → IsAttachedIn image l → IsFree g.maps g.mappings op l (locals l)
+  free_at undone l here = elim (place_of (listed op.olds) l) [
+    | inl o ↦ by (subst (λ x. IsSweptPlain op (locals x)) o.2 (undone.olds o.0 o.1))
     | inr not_old ↦ elim (place_of (listed op.news) l) [
-      | inl n ↦ by (subst (λ x. IsSweptPlain op (locals x)) n.2 (news n.0 n.1))
+      | inl n ↦ by (subst (λ x. IsSweptPlain op (locals x)) n.2 (undone.news n.0 n.1))
       | inr not_new ↦ free_elsewhere g.maps g.mappings maps_ok g.log (next_operation image) log_ok op logged l (locals l) (sound.locals l here) (record { no_old = not_old; no_new = not_new })
     ]
   ]
@@ -99,9 +104,9 @@ module _ (image : Image) (sound : Sound image) (op : Op) (logged : HasLog (globa
   keep_keyed Global = let h = sound.keyed Global in record { mappings = h.mappings; log = keyed-remove nat_cmp_total (λ (o : Op). o.number) g.log op.number h.log; jobs = h.jobs; locals = h.locals }
   keep_keyed (Shard l) = sound.keyed (Shard l)
 
-  -- Where the rows of the hull are Plain at each site of the operation, its log row goes and the image stays sound.
-  pub unlogged_sound : ((p : Piece) → IsOneOf (listed op.olds) p → IsSweptPlain op (locals p.location)) → ((p : Piece) → IsOneOf (listed op.news) p → IsSweptPlain op (locals p.location)) → Sound unlogged
-  unlogged_sound olds news = record {
+  -- Once it is undone at all its sites its log row goes, and the image stays sound.
+  pub unlogged_sound : IsUndone image op → Sound unlogged
+  unlogged_sound undone = record {
     keyed = keep_keyed;
     globals = record { shards = sound.globals.shards; tables = sound.globals.tables; operations = sound.globals.operations; jobs = sound.globals.jobs; spans = sound.globals.spans; on_shards = sound.globals.on_shards; disjoint = sound.globals.disjoint };
     logged = record {
@@ -109,8 +114,8 @@ module _ (image : Image) (sound : Sound image) (op : Op) (logged : HasLog (globa
       numbered = λ other h. sound.logged.numbered other (unlogged_gives g.log op.number other.number other h).1;
       hulls = λ a b h k. sound.logged.hulls a b (unlogged_gives g.log op.number a.number a h).1 (unlogged_gives g.log op.number b.number b k).1;
     };
-    locals = λ l here. unlogged_locals g.maps g.mappings maps_ok g.log (next_operation image) log_ok op logged l (locals l) (sound.locals l here) (free_at olds news l here);
-    online = λ l here. unlogged_online g.maps g.mappings maps_ok g.log (next_operation image) log_ok op logged l (locals l) (sound.locals l here) (free_at olds news l here) (sound.online l here);
+    locals = λ l here. unlogged_locals g.maps g.mappings maps_ok g.log (next_operation image) log_ok op logged l (locals l) (sound.locals l here) (free_at undone l here);
+    online = λ l here. unlogged_online g.maps g.mappings maps_ok g.log (next_operation image) log_ok op logged l (locals l) (sound.locals l here) (free_at undone l here) (sound.online l here);
     rows = sound.rows;
     batches = sound.batches;
     suspect = sound.suspect;
@@ -130,19 +135,13 @@ module _ (image : Image) (sound : Sound image) (op : Op) (logged : HasLog (globa
   pub target_done : ((o : Piece) → IsOneOf (listed op.olds) o → IsDone op o.location (locals o.location)) → ((n : Piece) → IsOneOf (listed op.news) n → IsDone op n.location (locals n.location)) → Marked image op TargetDone
   target_done olds news = (logged, (source_done olds).1, all_from (λ (p : Piece). MarkedAt g.log op p.location (locals p.location)) (listed op.news) (λ n h. marked_at n.location (new_attached image op (sound.logged.lawful op logged) n h) (news n h)))
 
-  -- at an attached site of none of its mappings no row has its mark
-  pub no_mark_elsewhere : (l : Text) → IsAttachedIn image l → IsElsewhere op l → HasNoMark op (locals l)
-  no_mark_elsewhere l here away row h = (
-    (λ e. let o = old_of_mark g.maps g.mappings maps_ok g.log (next_operation image) log_ok op logged l (locals l) (sound.locals l here) row h e in away.no_old o.0 o.1 o.3),
-    (λ e. let n = new_of_mark g.maps g.mappings maps_ok g.log (next_operation image) log_ok op logged l (locals l) (sound.locals l here) row h e.0 e.1 in away.no_new n.0 n.1 n.3),
-  )
-
 -- ---- settling
 
 module _ (image : Image) (sound : Sound image) (p : ℕ) (out : map.get (global image).log p ≡ None) where
   -- Settling an operation that is out of the log keeps an image sound.
-  pub settle_sound : (l : Text) → IsAttachedIn image l → (after : Locals) → IsSettled p (locals_at image l) after → AreKeyed after → Sound (with_locals image l after)
-  settle_sound l here after settled keyed = local_sound image l after here sound keyed
+  pub settle_sound : (l : Text) → IsAttachedIn image l → (after : Locals) → IsSettled p (locals_at image l) after → Sound (with_locals image l after)
+  settle_sound l here after settled = local_sound image l after here sound
+      (keeps_keyed (settle p) (settle_keeps p) (locals_at image l) after settled (sound.keyed (Shard l)).locals)
       (settled_locals (global image).log (next_operation image) l p out (global image).mappings (locals_at image l) after settled (sound.locals l here))
       (settled_online (global image).log (next_operation image) l p out (global image).maps (owner_of image) (locals_at image l) after settled (sound.online l here))
 

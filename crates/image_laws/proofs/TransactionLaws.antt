@@ -11,13 +11,13 @@ use Rattle.image_laws.proofs.StepImages.{step_sound, undo_sound, unlogged_sound,
 
 pub one_sound : (image after : Image) → Sound image → Transaction image after → Sound after
 one_sound image after s (Logging op lawful number room clear is) = subst Sound (sym is) (log_keeps_sound image s op lawful number room clear)
-one_sound image after s (Stepping op logged l here unborn middle last swept born keyed is) = subst Sound (sym is) (step_sound image s op logged l here unborn middle last swept born keyed)
+one_sound image after s (Stepping op logged location here unborn last stepped is) = subst Sound (sym is) (step_sound image s op logged location here unborn last stepped)
 one_sound image after s (Committing op logged marked is) =
     let law = s.logged.lawful op logged in
     subst Sound (sym is) (commit_sound image s op law (jobs_after (global image).jobs op.extra) logged marked (parts image s op law))
-one_sound image after s (Settling p out l here last settled keyed is) = subst Sound (sym is) (settle_sound image s p out l here last settled keyed)
-one_sound image after s (Undoing op logged l here last swept keyed is) = subst Sound (sym is) (undo_sound image s op logged l here last swept keyed)
-one_sound image after s (Dropping op logged olds news is) = subst Sound (sym is) (unlogged_sound image s op logged olds news)
+one_sound image after s (Settling number out location here last settled is) = subst Sound (sym is) (settle_sound image s number out location here last settled)
+one_sound image after s (Undoing op logged location here last swept is) = subst Sound (sym is) (undo_sound image s op logged location here last swept)
+one_sound image after s (Dropping op logged undone is) = subst Sound (sym is) (unlogged_sound image s op logged undone)
 
 pub run_sound : (images : List Image) (image last : Image) → Sound image → IsRun image images last → Sound last
 run_sound [] image last s is = subst Sound (sym is) s

@@ -4,10 +4,11 @@ use Rattle.std.specs.FinMap as map
 use Rattle.cell_world.specs.Texts.{Text}
 use Rattle.cell_world.specs.Lists.{IsOneOf}
 use Rattle.cell_world.specs.Keys.{same}
-use Rattle.cell_world.specs.Stores.{Locals, local_key}
+use Rattle.cell_world.specs.Spelled.{listed}
+use Rattle.cell_world.specs.Stores.{Log, Locals, local_key}
 use Rattle.cell_world.specs.Images.{Image, Global, Shard, global, with_store}
-use Rattle.cell_world.specs.Sound.{HasLocal}
-use Rattle.cell_world.specs.Sweep.{marked_as}
+use Rattle.cell_world.specs.Sound.{HasLocal, locals_at}
+use Rattle.cell_world.specs.Sweep.{marked_as, IsSwept, IsSweptPlain}
 use Rattle.cell_world.specs.UnderWay.{new_row}
 use Rattle.cell_world.specs.declared.operations.Piece.{Piece}
 use Rattle.cell_world.specs.declared.operations.Op.{Op}
@@ -45,6 +46,23 @@ pub record AreBorn (number : ℕ) (location : Text) (news : List Piece) (before 
   pub new : (n : Piece) → IsOneOf news n → n.location ≡ location → HasLocal after (new_row number n)
   -- what stood stands, but for rows of this number
   pub kept : (row : LocalRow) → HasLocal before row → (row.number ≡ number) ⊎ HasLocal after row
+
+-- The local step of an operation at a site: the rows that overlap the hull are swept, and then those of the news there are put.
+pub record IsStepped (log : Log) (op : Op) (location : Text) (before after : Locals) : Type 0 where
+  -- once they are swept
+  pub middle : Locals
+  pub swept : IsSwept log op (Old op.number) before middle
+  -- the news are put
+  pub born : AreBorn op.number location (listed op.news) middle after
+  -- and each row stands under its own key
+  pub keyed : AreKeyed after
+
+-- ---- undo
+
+-- at the site of each old and of each new mapping the rows that overlap the hull are Plain
+pub record IsUndone (image : Image) (op : Op) : Type 0 where
+  pub olds : (old : Piece) → IsOneOf (listed op.olds) old → IsSweptPlain op (locals_at image old.location)
+  pub news : (new : Piece) → IsOneOf (listed op.news) new → IsSweptPlain op (locals_at image new.location)
 
 -- ---- settling
 

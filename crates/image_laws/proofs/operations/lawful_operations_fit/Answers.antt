@@ -1,5 +1,0 @@
-use Rattle.image_laws.proofs.FitLaws.{fit_of_lawful}
-use Rattle.image_laws.proofs.operations.lawful_operations_fit.Goals as goal
-
-pub returns : goal.returns
-returns c = fit_of_lawful
