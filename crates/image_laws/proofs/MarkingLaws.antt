@@ -1,4 +1,4 @@
--- The paper's words on a site where the local step was made say the same as that it is done.
+-- That an operation is marked at a site, with regard to the log and to the marks of others, says the same as that it is done there.
 use Rattle.std.proofs.Common.{◌≡◌, ◌⊎◌, ℕ, true, refl, sym, ap, ◌∙◌, subst, Some, None, Option, inl, inr, is_some}
 use Rattle.std.specs.Prelude.{IsTrue, IfSome}
 use Rattle.std.specs.FinMap as map
