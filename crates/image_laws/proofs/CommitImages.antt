@@ -28,7 +28,7 @@ use Rattle.cell_world.proofs.KeyedLaws.{keyed-remove}
 use Rattle.cell_world.proofs.SpanLaws.{same_is, same_self, overlaps_shared}
 use Rattle.image_laws.proofs.OwnerLaws.{owner_stands, owner_key}
 use Rattle.image_laws.proofs.MeaningLaws.{same_rows}
-use Rattle.image_laws.proofs.AddCommits.{no_row}
+use Rattle.image_laws.proofs.RowOwners.{no_row}
 use Rattle.cell_world.proofs.ListLaws.{all_at}
 use Rattle.image_laws.specs.Fits.{Fits, AreLogged}
 use Rattle.image_laws.proofs.CommitSites.{IsReady, unlogged_gives, ready_done, ready_elsewhere, committed_locals, committed_online}

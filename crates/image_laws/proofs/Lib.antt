@@ -9,6 +9,7 @@ pub mod EditImages
 pub mod EmptyLaws
 pub mod ExchangeLaws
 pub mod FitLaws
+pub mod HeldLaws
 pub mod JobCommits
 pub mod JobImages
 pub mod JobKinds
@@ -29,6 +30,7 @@ pub mod Places
 pub mod Remarks
 pub mod RowEdits
 pub mod RowLaws
+pub mod RowOwners
 pub mod ShapeLaws
 pub mod ShapeRows
 pub mod SiteLaws

@@ -1,19 +1,20 @@
 -- A change of the local rows at one attached site: it keeps an image sound where it keeps the site sound, and the meaning stays.
-use Rattle.std.proofs.Common.{◌≡◌, Bool, true, false, cond, not, refl, sym, ap, ◌∙◌, subst, Some, None, ◌&&◌, ℕ}
+use Rattle.std.proofs.Common.{◌≡◌, Bool, true, false, cond, refl, sym, ap, ◌∙◌, subst, Some, None, ℕ}
 use Rattle.std.specs.Prelude.{IfSome, option_and_then}
 use Rattle.std.specs.FinMap as map
 use Rattle.cell_world.specs.Texts.{Text}
-use Rattle.cell_world.specs.Keys.{same, is_among}
+use Rattle.cell_world.specs.Keys.{same}
 use Rattle.cell_world.specs.Stores.{Store, Locals, Rows, IsKeyed, local_key}
 use Rattle.cell_world.specs.Images.{Image, Place, Global, Shard, global}
-use Rattle.cell_world.specs.Plain.{Held, holds_nothing, is_attached}
-use Rattle.cell_world.specs.Meaning.{meaning, row_at, owner_of, next_operation, is_attached_at, held_at}
+use Rattle.cell_world.specs.Plain.{is_attached}
+use Rattle.cell_world.specs.Meaning.{meaning, row_at, owner_of, next_operation, is_attached_at}
 use Rattle.cell_world.specs.Lawful.{read_tables, rows_at}
 use Rattle.cell_world.specs.Sound.{Sound, LogCells, LocalCells, OnlineRows, RowCells, BatchRows, SuspectSite, IsAttachedIn, IsSuspectIn}
 use Rattle.cell_world.specs.declared.cells.Away.TheVariants as away
 use Rattle.cell_world.specs.declared.cells.RowName.{RowName}
 use Rattle.cell_world.specs.declared.operations.Piece.{Piece}
 use Rattle.cell_world.proofs.SpanLaws.{same_is, same_self}
+use Rattle.image_laws.proofs.HeldLaws.{held_stays}
 use Rattle.image_laws.proofs.MeaningLaws.{same_rows}
 use Rattle.image_laws.specs.LocalSteps.{with_locals}
 
@@ -44,28 +45,12 @@ module _ (image : Image) (location : Text) (locals : Locals) where
       by false e = old
 
   module _ (here : IsAttachedIn image location) where
-    held_stays : (other : Text) → held_at after other ≡ held_at image other
-    held_stays other = by (is_among image.locations other) (is_attached (map.get (global image).away other)) (same location other) refl refl
-      where
-        held_of : Store → Held
-        held_of store = record { locals = store.locals; rows = store.rows }
-
-        by : (a b c : Bool) → is_attached (map.get (global image).away other) ≡ b → same location other ≡ c
-            → ◌≡◌ {A = Held} (cond (a && not b) (held_of (cond c new (image.at (Shard other)))) holds_nothing) (cond (a && not b) (held_of (image.at (Shard other))) holds_nothing)
-        by false b c e f = refl
-        by true true c e f = refl
-        by true false false e f = refl
-        by true false true e f =
-            let off : is_attached (map.get (global image).away location) ≡ false = subst (λ l. is_attached (map.get (global image).away l) ≡ false) (sym (same_is location other f)) e in
-            let on : is_attached (map.get (global image).away location) ≡ true = here.attached in
-            cc
-
     row_stays : (row : RowName) → row_at after row ≡ row_at image row
     row_stays row = ap (λ (rows : Text → Rows). option_and_then (λ (p : Piece). cond (is_attached_at image.locations (global image).away p.location) (map.get (rows p.location) row) None) (owner_of image row.map row.key)) same_rows_at
 
     -- The meaning stays.
     pub local_meaning : meaning after ≡ meaning image
-    local_meaning = λ i. record (meaning image) { rows = same_rows after image row_stays i; held = λ l. held_stays l i }
+    local_meaning = λ i. record (meaning image) { rows = same_rows after image row_stays i; held = λ l. held_stays image location new here l i }
 
     not_suspect : map.get (global image).away location ≡ Some away.Suspect → ⊥
     not_suspect e = let off : is_attached (map.get (global image).away location) ≡ false = ap is_attached e in let on : is_attached (map.get (global image).away location) ≡ true = here.attached in absurd (cc)
