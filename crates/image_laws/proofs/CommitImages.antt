@@ -40,7 +40,8 @@ use Rattle.image_laws.proofs.Lists.{any_from, any_gives}
 use Rattle.image_laws.proofs.MarkingLaws.{done_from_marked}
 use Rattle.image_laws.proofs.Places.{old_attached, new_attached}
 use Rattle.image_laws.proofs.ShapeRows.{HaveToken, tokens_of, job_of_old, rows_follow, Follow}
-use Rattle.image_laws.proofs.SoundParts.{are_mappings, are_logged}
+use Rattle.cell_world.proofs.MappingLaws.{sound_mappings}
+use Rattle.image_laws.proofs.SoundParts.{are_logged}
 use Rattle.image_laws.proofs.StaysLawful.{AreApart, stays_lawful}
 
 -- the location of one of the pieces, or of none
@@ -71,7 +72,7 @@ module _ (image : Image) (sound : Sound image) (op : Op) (law : Lawful image op)
   locals l = (image.at (Shard l)).locals
 
   pub maps_ok : AreMappings g.maps g.mappings
-  maps_ok = are_mappings image sound
+  maps_ok = sound_mappings image sound
 
   pub log_ok : AreLogged g.maps g.mappings g.log (next_operation image)
   log_ok = are_logged image sound

@@ -20,7 +20,8 @@ use Rattle.image_laws.specs.LocalSteps.{AreBorn, IsSettled}
 use Rattle.image_laws.proofs.CommitSites.{IsElsewhere, old_of_mark, new_of_mark}
 use Rattle.image_laws.proofs.OthersStay.{settle_row}
 use Rattle.image_laws.proofs.Places.{location_in, is_among_of}
-use Rattle.image_laws.proofs.SoundParts.{are_mappings, are_logged}
+use Rattle.cell_world.proofs.MappingLaws.{sound_mappings}
+use Rattle.image_laws.proofs.SoundParts.{are_logged}
 use Rattle.image_laws.proofs.StepLaws.{Swept, In, Out, swept_back}
 
 -- ---- at other sites
@@ -38,9 +39,9 @@ elsewhere op location out = record {
 -- No row there has a mark of a logged operation.
 pub none_elsewhere : (image : Image) → Sound image → (op : Op) → HasLog (global image).log op → NoMarksElsewhere image op
 none_elsewhere image sound op logged location here out row has = (
-  (λ e. let o = old_of_mark (global image).maps (global image).mappings (are_mappings image sound) (global image).log (next_operation image) (are_logged image sound) op logged location (image.at (Shard location)).locals (sound.locals location here) row has e in
+  (λ e. let o = old_of_mark (global image).maps (global image).mappings (sound_mappings image sound) (global image).log (next_operation image) (are_logged image sound) op logged location (image.at (Shard location)).locals (sound.locals location here) row has e in
       (elsewhere op location out).no_old o.0 o.1 o.3),
-  (λ e. let n = new_of_mark (global image).maps (global image).mappings (are_mappings image sound) (global image).log (next_operation image) (are_logged image sound) op logged location (image.at (Shard location)).locals (sound.locals location here) row has e.0 e.1 in
+  (λ e. let n = new_of_mark (global image).maps (global image).mappings (sound_mappings image sound) (global image).log (next_operation image) (are_logged image sound) op logged location (image.at (Shard location)).locals (sound.locals location here) row has e.0 e.1 in
       (elsewhere op location out).no_new n.0 n.1 n.3),
 )
 

@@ -3,26 +3,24 @@ use Rattle.std.proofs.Common.{◌≡◌, ◌≢◌, true, sym, ap, ◌∙◌}
 use Rattle.cell_world.specs.Lists.{IsOneOf}
 use Rattle.cell_world.specs.Keys.{same, overlaps}
 use Rattle.std.proofs.lemmas.Bool.{and_parts}
+use Rattle.cell_world.proofs.MappingLaws.{sound_mappings}
 use Rattle.cell_world.proofs.SpanLaws.{same_is, overlaps_shared, shared_of_overlap}
-use Rattle.cell_world.specs.Sound.{AreMappings, Sound, HasLog}
+use Rattle.cell_world.specs.Sound.{Sound, HasLog}
 use Rattle.cell_world.specs.Sweep.{reaches}
 use Rattle.cell_world.specs.UnderWay.{new_row}
 use Rattle.image_laws.specs.Fits.{AreLogged}
 use Rattle.image_laws.proofs.FitLaws.{fit_of_lawful}
 use Rattle.cell_world.specs.Spelled.{listed}
-use Rattle.cell_world.specs.Images.{Image, Global, global}
+use Rattle.cell_world.specs.Images.{Image, global}
 use Rattle.cell_world.specs.Meaning.{next_operation}
 use Rattle.cell_world.specs.Lawful.{read_tables}
 use Rattle.cell_world.specs.declared.operations.Piece.{Piece}
 use Rattle.cell_world.specs.declared.operations.Op.{Op}
 
 module _ (image : Image) (sound : Sound image) where
-  pub are_mappings : AreMappings (global image).maps (global image).mappings
-  are_mappings = record { placed = (sound.keyed Global).mappings; spans = sound.globals.spans; disjoint = sound.globals.disjoint }
-
   pub are_logged : AreLogged (global image).maps (global image).mappings (global image).log (next_operation image)
   are_logged = record {
-    fits = λ op h. fit_of_lawful (read_tables image) are_mappings op (sound.logged.lawful op h);
+    fits = λ op h. fit_of_lawful (read_tables image) (sound_mappings image sound) op (sound.logged.lawful op h);
     numbered = sound.logged.numbered;
     hulls = sound.logged.hulls;
   }

@@ -30,7 +30,8 @@ use Rattle.image_laws.proofs.KeptKeys.{keeps_keyed, sweep_keeps, settle_keeps}
 use Rattle.image_laws.proofs.LocalImages.{local_sound}
 use Rattle.image_laws.proofs.MarkingLaws.{marked_from_done}
 use Rattle.image_laws.proofs.Places.{old_attached, new_attached}
-use Rattle.image_laws.proofs.SoundParts.{are_mappings, are_logged}
+use Rattle.cell_world.proofs.MappingLaws.{sound_mappings}
+use Rattle.image_laws.proofs.SoundParts.{are_logged}
 use Rattle.image_laws.proofs.StepLaws.{old_is_sweep, plain_is_sweep, swept_locals, swept_online, born_locals, born_online, unborn_swept, settled_locals, settled_online}
 use Rattle.image_laws.proofs.UndoLaws.{IsFree, free_cleared, free_elsewhere, unlogged_locals, unlogged_online}
 
@@ -42,7 +43,7 @@ module _ (image : Image) (sound : Sound image) (op : Op) (logged : HasLog (globa
   locals l = (image.at (Shard l)).locals
 
   pub maps_ok : AreMappings g.maps g.mappings
-  maps_ok = are_mappings image sound
+  maps_ok = sound_mappings image sound
 
   log_ok : AreLogged g.maps g.mappings g.log (next_operation image)
   log_ok = are_logged image sound

@@ -31,7 +31,7 @@ use Rattle.image_laws.proofs.FitLaws.{exchange, are_mappings_after}
 use Rattle.image_laws.proofs.JobRange.{job_stays, batch_stays}
 use Rattle.image_laws.proofs.JobTable.{step_stays}
 use Rattle.image_laws.proofs.ShapeLaws.{of_one}
-use Rattle.image_laws.proofs.SoundParts.{are_mappings}
+use Rattle.cell_world.proofs.MappingLaws.{sound_mappings}
 use Rattle.image_laws.proofs.StaysLawful.{stays_lawful, token_fits}
 
 -- a mapping that is put over one of its key
@@ -54,7 +54,7 @@ module _ (image : Image) (sound : Sound image) (p : Piece) (has : HasPiece (glob
   retoken = record p { token = token }
 
   m : AreMappings g.maps g.mappings
-  m = are_mappings image sound
+  m = sound_mappings image sound
 
   fit : IsFit g.maps g.mappings p.map p.span (p ∷ []) (retoken ∷ [])
   fit = token_fits g.maps g.mappings m p token has
