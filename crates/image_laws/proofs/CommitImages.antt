@@ -135,7 +135,8 @@ module _ (image : Image) (sound : Sound image) (op : Op) (law : Lawful image op)
           shared : (n : Piece) → IsTrue (contains n.span row.key) → inside row ≡ true → IsTrue (overlaps n.span op.hull)
           shared n h t = overlaps_shared n.span op.hull row.key h (and_parts (same row.map op.map) (contains op.hull row.key) t).1
 
-      within : inside row ≡ true → (o : Option Piece) → owner_in g.maps g.mappings row.map row.key ≡ o → option_and_then (found row) (owner_in g.maps after_mappings row.map row.key) ≡ option_and_then (found row) (owner_in g.maps g.mappings row.map row.key)
+      within : inside row ≡ true → (o : Option Piece) → owner_in g.maps g.mappings row.map row.key ≡ o
+          → option_and_then (found row) (owner_in g.maps after_mappings row.map row.key) ≡ option_and_then (found row) (owner_in g.maps g.mappings row.map row.key)
       within t None e = unowned (owner_in g.maps after_mappings row.map row.key) refl e t ∙ sym (ap (option_and_then (found row)) e)
       within t (Some o) e =
           let among = old_owner row t o e in

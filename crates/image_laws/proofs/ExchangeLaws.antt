@@ -33,7 +33,8 @@ without_back (o ∷ olds) m k q e = by (without_back olds (map.remove m (piece_k
     not_it g none (inl is) = none-some q (sym (get-remove_same pairs_total m (piece_key o)) ∙ ap (map.get (map.remove m (piece_key o))) is ∙ g)
     not_it g none (inr h) = none h
 
-    by : (map.get (map.remove m (piece_key o)) k ≡ Some q) × (IsKeyOfOne olds k → ⊥) → (map.get (map.remove m (piece_key o)) k ≡ None) ⊎ (map.get (map.remove m (piece_key o)) k ≡ map.get m k) → (map.get m k ≡ Some q) × (IsKeyOfOne (o ∷ olds) k → ⊥)
+    by : (map.get (map.remove m (piece_key o)) k ≡ Some q) × (IsKeyOfOne olds k → ⊥) → (map.get (map.remove m (piece_key o)) k ≡ None) ⊎ (map.get (map.remove m (piece_key o)) k ≡ map.get m k)
+        → (map.get m k ≡ Some q) × (IsKeyOfOne (o ∷ olds) k → ⊥)
     by more (inl none) = absurd (none-some q (sym none ∙ more.0))
     by more (inr same) = (sym same ∙ more.0, not_it more.0 more.1)
 

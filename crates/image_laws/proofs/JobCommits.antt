@@ -172,7 +172,8 @@ module _ (image : Image) (sound : Sound image) (op : Op) (law : Lawful image op)
         let empty = all_at (λ (o : Piece). rows_under (rows_at image job.source) job.map o.span ≡ map.empty) olds all b.old old_in in
         sym (under (rows_at image job.source) job.map b.old.span row (sym e) (subst (λ s. IsTrue (contains s row.key)) (sym b.span) inside)) ∙ ap (λ (r : Rows). map.get r row) empty ∙ map.get-empty row_cmp row
 
-    moved : (l : Text) → IsAttachedIn image l → (row : RowName) → HasRow (rows_at image l) row → InBatch job row.key → job.map ≡ row.map → IsSiteOfJob l job → IsKeyOf g.maps row.map row.key → IsOwnedBy (owner_in g.maps after) row.map row.key l ⊎ IsBeingMoved g.maps jobs row.map row.key l
+    moved : (l : Text) → IsAttachedIn image l → (row : RowName) → HasRow (rows_at image l) row → InBatch job row.key → job.map ≡ row.map → IsSiteOfJob l job → IsKeyOf g.maps row.map row.key
+        → IsOwnedBy (owner_in g.maps after) row.map row.key l ⊎ IsBeingMoved g.maps jobs row.map row.key l
     moved l here row h i e at_site of_type = by b.kind
       where
         by : BatchKind job b.end b.old b.new b.now → IsOwnedBy (owner_in g.maps after) row.map row.key l ⊎ IsBeingMoved g.maps jobs row.map row.key l
@@ -193,7 +194,8 @@ module _ (image : Image) (sound : Sound image) (op : Op) (law : Lawful image op)
                 let there : HasRow (rows_at image job.source) row = subst (λ y. HasRow (rows_at image y) row) x h in
                 absurd (true≢false (sym there ∙ ap is_some (emptied f row e inside_batch)))
 
-    placed : (l : Text) → (row : RowName) → HasRow (rows_at image l) row → IsOwnedBy (owner_of image) row.map row.key l → IsTrue (inside image sound op law row) → InBatch job row.key → IsOwnedBy (owner_in g.maps after) row.map row.key l ⊎ IsBeingMoved g.maps jobs row.map row.key l
+    placed : (l : Text) → (row : RowName) → HasRow (rows_at image l) row → IsOwnedBy (owner_of image) row.map row.key l → IsTrue (inside image sound op law row) → InBatch job row.key
+        → IsOwnedBy (owner_in g.maps after) row.map row.key l ⊎ IsBeingMoved g.maps jobs row.map row.key l
     placed l row h w t i = by b.kind
       where
         both : IsTrue (same row.map op.map) × IsTrue (contains op.hull row.key)
@@ -236,7 +238,8 @@ module _ (image : Image) (sound : Sound image) (op : Op) (law : Lawful image op)
     ]
 
     -- the rows that a move finds at the target
-    moved_rows : b.old.location ≡ job.source → b.new ≡ record b.old { location = job.target } → (row : RowName) → row.map ≡ job.map → IsTrue (contains (Range b.low b.end) row.key) → (bytes : Text) → map.get (rows_at image job.source) row ≡ Some bytes → map.get (rows_at image job.target) row ≡ Some bytes
+    moved_rows : b.old.location ≡ job.source → b.new ≡ record b.old { location = job.target } → (row : RowName) → row.map ≡ job.map → IsTrue (contains (Range b.low b.end) row.key) → (bytes : Text)
+        → map.get (rows_at image job.source) row ≡ Some bytes → map.get (rows_at image job.target) row ≡ Some bytes
     moved_rows at n row e h bytes there =
         let old_map : row.map ≡ b.old.map = e ∙ sym batch_of_map ∙ sym ((fit image sound op law).old_map b.old old_in) in
         elim (follow image sound op law row b.old old_in old_map (subst (λ s. IsTrue (contains s row.key)) (sym b.span) h)) [

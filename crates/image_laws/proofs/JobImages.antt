@@ -85,7 +85,8 @@ module _ (image : Image) (sound : Sound image) (op : Op) (law : Lawful image op)
     other_stands : (k : JobRow) → HasJob g.jobs k → k.number ≢ job.number → HasJob jobs k
     other_stands k h ne = others k.number ne ∙ h
 
-    moved_by : (l : Text) → IsAttachedIn image l → (row : RowName) → HasRow (rows_at image l) row → IsBeingMoved g.maps g.jobs row.map row.key l → IsOwnedBy (owner_in g.maps after) row.map row.key l ⊎ IsBeingMoved g.maps jobs row.map row.key l
+    moved_by : (l : Text) → IsAttachedIn image l → (row : RowName) → HasRow (rows_at image l) row → IsBeingMoved g.maps g.jobs row.map row.key l
+        → IsOwnedBy (owner_in g.maps after) row.map row.key l ⊎ IsBeingMoved g.maps jobs row.map row.key l
     moved_by l here row h v = elim (eqb_tells v.job.number job.number) [
       | inr t ↦ inr (record { job = v.job; stands = other_stands v.job v.stands t.1; of_map = v.of_map; at_site = v.at_site; in_batch = v.in_batch; of_type = v.of_type })
       | inl t ↦

@@ -166,10 +166,8 @@ module _ (maps : Maps) (mappings : Mappings) (m : AreMappings maps mappings) (sh
   merge_kind : job.phase ≡ Idle → (row : TableRow) → merge_due mappings job ≡ Some row → Gives (IsBatchEnd own job) row wanted → Kind
   merge_kind idle row = ending (ending_at mappings job.map job.cursor) refl
     where
-      abbreviated : Piece → Option Piece → TableRow
-      abbreviated p o = or_stuck (option_map (λ earlier. Always (merge_of earlier p)) o)
-
-      given : (p : Piece) → ending_at mappings job.map job.cursor ≡ Some p → below job.low (low_of p.span) ≡ true → (o : Option Piece) → ending_at mappings job.map (At (low_of p.span)) ≡ o → Gives (IsBatchEnd own job) (or_stuck (option_map (λ earlier. Always (merge_of earlier p)) o)) wanted → Kind
+      given : (p : Piece) → ending_at mappings job.map job.cursor ≡ Some p → below job.low (low_of p.span) ≡ true → (o : Option Piece) → ending_at mappings job.map (At (low_of p.span)) ≡ o
+          → Gives (IsBatchEnd own job) (or_stuck (option_map (λ earlier. Always (merge_of earlier p)) o)) wanted → Kind
       given p f t None g h = no_step Stuck olds news put refl h
       given p f t (Some q) g h =
           let s = ending_stands maps mappings m job.map job.cursor p f in
@@ -192,7 +190,8 @@ module _ (maps : Maps) (mappings : Mappings) (m : AreMappings maps mappings) (sh
           due = ap (option_and_then (λ (p : Piece). cond (below job.low (low_of p.span)) (Some (or_stuck (option_map (λ earlier. Always (merge_of earlier p)) (ending_at mappings job.map (At (low_of p.span)))))) None)) f
 
   -- the offline of a batch
-  offline_kind : job.phase ≡ Idle → (key : Text) → job.cursor ≡ At key → (p : Piece) → own job.map key ≡ Some p → at_most key (low_of p.span) ≡ true → (end : High) → IsBatchEnd own job end → (a : Text) (b : High) → p.span ≡ Range a b → not (end_below end b) ≡ true → offline_of job p end ≡ wanted → Kind
+  offline_kind : job.phase ≡ Idle → (key : Text) → job.cursor ≡ At key → (p : Piece) → own job.map key ≡ Some p → at_most key (low_of p.span) ≡ true → (end : High) → IsBatchEnd own job end
+      → (a : Text) (b : High) → p.span ≡ Range a b → not (end_below end b) ≡ true → offline_of job p end ≡ wanted → Kind
   offline_kind idle key c p o lower end may a b span upto e =
       let s = owner_stands maps mappings m.placed job.map key p o in
       let holds = and_parts (at_most a key) (before key b) (subst (λ x. IsTrue (contains x key)) span s.2) in
@@ -236,7 +235,8 @@ module _ (maps : Maps) (mappings : Mappings) (m : AreMappings maps mappings) (sh
       limit : IsTrue (not (end_below job.high end))
       limit = end_trans job.high (batch_limit job p) end (limit_within job p) end_upto
 
-  at_cursor_kind : job.phase ≡ Idle → (key : Text) → job.cursor ≡ At key → (o : Option Piece) → own job.map key ≡ o → Gives (IsBatchEnd own job) (or_stuck (option_map (at_cursor (record job { phase = Idle; cursor = At key }) key) o)) wanted → Kind
+  at_cursor_kind : job.phase ≡ Idle → (key : Text) → job.cursor ≡ At key → (o : Option Piece) → own job.map key ≡ o
+      → Gives (IsBatchEnd own job) (or_stuck (option_map (at_cursor (record job { phase = Idle; cursor = At key }) key) o)) wanted → Kind
   at_cursor_kind idle key c None f h = no_step Stuck olds news put refl h
   at_cursor_kind idle key c (Some p) f h = elim (cases_Bool (below (low_of p.span) key)) [
     | inl t ↦ split_kind idle p key (owner_stands maps mappings m.placed job.map key p f).1 (subst (λ b. Gives (IsBatchEnd own job) (cond b (Always (split_at p key)) (UpTo (batch_row jb p))) wanted) t h)
@@ -280,7 +280,8 @@ module _ (maps : Maps) (mappings : Mappings) (m : AreMappings maps mappings) (sh
   ]
 
   -- the mapping of a batch in progress owns the cursor
-  batch_owner : (end : High) (location : Text) → BatchAt mappings job end location → (low : Text) × (old : Piece) × (job.cursor ≡ At low) × (old.span ≡ Range low end) × (own job.map low ≡ Some old) × (cursor_piece own job ≡ Some old) × (old.status ≡ Offline) × (old.location ≡ location)
+  batch_owner : (end : High) (location : Text) → BatchAt mappings job end location
+      → (low : Text) × (old : Piece) × (job.cursor ≡ At low) × (old.span ≡ Range low end) × (own job.map low ≡ Some old) × (cursor_piece own job ≡ Some old) × (old.status ≡ Offline) × (old.location ≡ location)
   batch_owner end location b =
       let holds : IsTrue (contains b.piece.span b.low) = subst (λ x. IsTrue (contains x b.low)) (sym b.span) (subst (λ x. IsTrue (contains x (low_of x))) b.span (low_in maps b.piece.map b.piece.span (m.spans b.piece b.stands))) in
       let range = cursor_in_range maps mappings m shards next job j b.low end b.at_cursor b.above b.within in

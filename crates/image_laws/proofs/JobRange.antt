@@ -79,7 +79,8 @@ module _ (maps : Maps) (mappings : Mappings) (m : AreMappings maps mappings) (sh
       record { normal = a.0; from = at_most_self job.low; to = (and_parts (is_normal_end j.type job.high) (before job.low job.high) a.1).1 }
 
   -- a mapping that ends above lo has a key of the range
-  pub ends_in : (ms : Mappings) → AreMappings maps ms → (p : Piece) → HasPiece ms p → p.map ≡ job.map → (end : High) → IsTrue (ends_at end p.span) → IsTrue (end_below (At job.low) end) → IsTrue (not (end_below job.high end)) → (key : Text) × InRange key × IsTrue (contains p.span key)
+  pub ends_in : (ms : Mappings) → AreMappings maps ms → (p : Piece) → HasPiece ms p → p.map ≡ job.map → (end : High) → IsTrue (ends_at end p.span) → IsTrue (end_below (At job.low) end)
+      → IsTrue (not (end_below job.high end)) → (key : Text) × InRange key × IsTrue (contains p.span key)
   ends_in ms ok p h of_map end ends above within = by p.span refl ends (low_in maps p.map p.span (ok.spans p h)) (low_normal ms ok p h of_map)
     where
       same_ends : (a b : High) → same_end a b ≡ true → a ≡ b

@@ -320,7 +320,8 @@ module _ (maps : Maps) (mappings : Mappings) (m : AreMappings maps mappings) (op
         by kind.List t h e = cc
 
     -- where it moves to the batch's end
-    pub cells_moved : b.new.location ≡ job.target → b.new.status ≡ Online → ((key : Text) → not (before key b.end) ≡ true → not (before key (front_of job)) ≡ true) → JobCells maps shards after next (record job { cursor = b.end; phase = Idle })
+    pub cells_moved : b.new.location ≡ job.target → b.new.status ≡ Online → ((key : Text) → not (before key b.end) ≡ true → not (before key (front_of job)) ≡ true)
+        → JobCells maps shards after next (record job { cursor = b.end; phase = Idle })
     cells_moved there online left_before = cells_at b.end Idle refl end_normal (end_trans b.end job.cursor (At job.low) (end_not_below job.cursor b.end b.above) j.from_low) b.within done cut_off left_before
       where
         done : (key : Text) → IsTrue (is_normal j.type key) → IsTrue (contains (Range job.low b.end) key) → IsOwnedAs own_after job.map key job.target Online
@@ -380,12 +381,6 @@ module _ (maps : Maps) (mappings : Mappings) (m : AreMappings maps mappings) (op
         let p = j.left b.low low_key.normal (in_span maps mappings m shards next job j b.low low_key) front in
         let is : p.0 ≡ b.old = same_Some p.0 b.old (sym p.1 ∙ b.owner) in
         sym (ap (λ (x : Piece). x.location) is) ∙ p.2
-
-    pub old_token : b.old.token ≡ Some (record { 0 = job.number })
-    old_token =
-        let p = j.tokens b.low low_key.normal (in_span maps mappings m shards next job j b.low low_key) in
-        let is : p.0 ≡ b.old = same_Some p.0 b.old (sym p.1 ∙ b.owner) in
-        sym (ap (λ (x : Piece). x.token) is) ∙ p.2
 
     -- the job's cells after the commit
     pub batch_cells : JobCells maps shards after next b.now

@@ -13,7 +13,7 @@ use Rattle.cell_world.specs.Sound.{Sound, LogCells, LocalCells, OnlineRows, RowC
 use Rattle.cell_world.specs.declared.cells.Away.TheVariants as away
 use Rattle.cell_world.specs.declared.cells.RowName.{RowName}
 use Rattle.cell_world.specs.declared.operations.Piece.{Piece}
-use Rattle.cell_world.proofs.SpanLaws.{same_is, same_self}
+use Rattle.cell_world.proofs.SpanLaws.{same_is}
 use Rattle.image_laws.proofs.HeldLaws.{held_stays}
 use Rattle.image_laws.proofs.MeaningLaws.{same_rows}
 use Rattle.image_laws.specs.LocalSteps.{with_locals}
@@ -32,9 +32,6 @@ module _ (image : Image) (location : Text) (locals : Locals) where
       by : (l : Text) (b : Bool) → same location l ≡ b → (cond b new (image.at (Shard l))).rows ≡ (image.at (Shard l)).rows
       by l true e = ap (λ x. (image.at (Shard x)).rows) (same_is location l e)
       by l false e = refl
-
-  pub locals_there : (after.at (Shard location)).locals ≡ locals
-  locals_there = ap (λ b. (cond b new (image.at (Shard location))).locals) (same_self location)
 
   -- what is said of a site's local rows is said of all where it is said of the new ones there and of the old ones
   pub at_each : (P : Text → Locals → Type 0) → P location locals → (l : Text) → P l (image.at (Shard l)).locals → P l (after.at (Shard l)).locals

@@ -63,7 +63,8 @@ module _ (maps : Maps) (mappings : Mappings) (m : AreMappings maps mappings) (lo
       by was row h (In t c e) r = absurd (row_apart was h (subst (λ (x : LocalRow). IsTrue (reaches p x)) e r) t)
 
 -- The news of q leave the step of p done.
-pub done_born : (p q : Op) (location : Text) (before after : Locals) → p.number ≢ q.number → ((n : Piece) → IsOneOf (listed q.news) n → reaches p (new_row q.number n) ≡ true → ⊥) → AreBorn q.number location (listed q.news) before after → IsDone p location before → IsDone p location after
+pub done_born : (p q : Op) (location : Text) (before after : Locals) → p.number ≢ q.number → ((n : Piece) → IsOneOf (listed q.news) n → reaches p (new_row q.number n) ≡ true → ⊥)
+    → AreBorn q.number location (listed q.news) before after → IsDone p location before → IsDone p location after
 done_born p q location before after ne apart born done = record {
   only = λ row h r. elim (born.back row h) [
     | inl b ↦ absurd (apart b.0 b.1 (subst (λ (x : LocalRow). IsTrue (reaches p x)) b.3 r))
@@ -88,7 +89,8 @@ settle_back q was row (Old r) m e = by (cases_Bool (eqb r q)) e
     by (inr t) e = inl (sym (same_Some _ _ (ap (λ b. cond b None (Some was)) (sym t) ∙ e)))
 settle_back q was row New m e = by (eqb_tells was.number q) e
   where
-    by : ((eqb was.number q ≡ true) × (was.number ≡ q)) ⊎ ((eqb was.number q ≡ false) × (was.number ≢ q)) → cond (eqb was.number q) (Some (marked_as Plain was)) (Some was) ≡ Some row → (row ≡ was) ⊎ ((row ≡ marked_as Plain was) × (was.mark ≡ New) × (was.number ≡ q))
+    by : ((eqb was.number q ≡ true) × (was.number ≡ q)) ⊎ ((eqb was.number q ≡ false) × (was.number ≢ q)) → cond (eqb was.number q) (Some (marked_as Plain was)) (Some was) ≡ Some row
+        → (row ≡ was) ⊎ ((row ≡ marked_as Plain was) × (was.mark ≡ New) × (was.number ≡ q))
     by (inl t) e = inr (sym (same_Some _ _ (ap (λ b. cond b (Some (marked_as Plain was)) (Some was)) (sym t.0) ∙ e)), m, t.1)
     by (inr t) e = inl (sym (same_Some _ _ (ap (λ b. cond b (Some (marked_as Plain was)) (Some was)) (sym t.0) ∙ e)))
 

@@ -1,5 +1,5 @@
 -- Two lawful operations whose hulls are apart leave each other lawful.
-use Rattle.std.proofs.Common.{◌≡◌, true, false, refl, sym, ◌∙◌, subst, Option, Some, None, inl, inr, true≢false, List, [], ◌∷◌}
+use Rattle.std.proofs.Common.{◌≡◌, true, false, refl, sym, ◌∙◌, subst, Option, Some, inl, inr, true≢false, List, [], ◌∷◌}
 use Rattle.std.specs.Prelude.{IsTrue}
 use Rattle.std.specs.List.{list_any}
 use Rattle.std.specs.FinMap as map
@@ -70,10 +70,6 @@ module _ (t : ReadTables) (m : AreMappings t.maps t.mappings) (name : Text) (hul
     job = job;
     no_drop = law.no_drop;
   }
-
-  -- An operation without job stays lawful wherever the jobs stay.
-  pub stays_without_job : job_of_pieces t.jobs (listed other.olds) ≡ None → LawfulOn (record t { mappings = after }) other
-  stays_without_job none = stays_lawful t.jobs (subst (λ j. IsOfJob (record t { mappings = after }) other j) (sym none) (subst (λ j. IsOfJob t other j) none law.job))
 
 -- operations that don't conflict
 pub apart_of : (a b : Op) → conflicts (reach_of a) b ≡ false → AreApart a b

@@ -9,7 +9,7 @@ use Rattle.cell_world.specs.Lists.{IsOneOf}
 use Rattle.cell_world.specs.Spelled.{listed}
 use Rattle.cell_world.specs.Stores.{Store, Locals, IsKeyed, local_key}
 use Rattle.cell_world.specs.Images.{Image, Place, Global, Shard, global}
-use Rattle.cell_world.specs.Meaning.{meaning, owner_of, next_operation}
+use Rattle.cell_world.specs.Meaning.{owner_of, next_operation}
 use Rattle.cell_world.specs.Sound.{locals_at, Sound, HasLog, IsAttachedIn, AreMappings}
 use Rattle.cell_world.specs.Marked.{Marked, MarkedAt, HasNoMark, IsNew}
 use Rattle.cell_world.specs.declared.operations.StageName.TheVariants.{SourceDone, TargetDone}
@@ -86,9 +86,6 @@ module _ (image : Image) (sound : Sound image) (op : Op) (logged : HasLog (globa
   abbrev unlogged : Image
   unlogged = without_log_row image op
 
-  pub undone_meaning : meaning unlogged ≡ meaning image
-  undone_meaning = refl
-
   free_at : IsUndone image op → (l : Text) → IsAttachedIn image l → IsFree g.maps g.mappings op l (locals l)
   free_at undone l here = elim (place_of (listed op.olds) l) [
     | inl o ↦ by (subst (λ x. IsSweptPlain op (locals x)) o.2 (undone.olds o.0 o.1))
@@ -162,7 +159,8 @@ settled_clean op before after settled row h = option_and_then_some (settle op.nu
         tells (inr t) e = none_of (Old q) (ap (λ (x : LocalRow). x.mark) (sym (same_Some _ _ (ap (λ b. cond b None (Some was)) (sym t.0) ∙ e))) ∙ m) (λ f. t.1 (cc)) (λ f. absurd (cc))
     by was New m e = tells (eqb_tells was.number op.number) e
       where
-        tells : ((eqb was.number op.number ≡ true) × (was.number ≡ op.number)) ⊎ ((eqb was.number op.number ≡ false) × (was.number ≢ op.number)) → cond (eqb was.number op.number) (Some (marked_as Plain was)) (Some was) ≡ Some row → (row.mark ≢ Old op.number) × (IsNew op.number row → ⊥)
+        tells : ((eqb was.number op.number ≡ true) × (was.number ≡ op.number)) ⊎ ((eqb was.number op.number ≡ false) × (was.number ≢ op.number))
+            → cond (eqb was.number op.number) (Some (marked_as Plain was)) (Some was) ≡ Some row → (row.mark ≢ Old op.number) × (IsNew op.number row → ⊥)
         tells (inl t) e = none_of Plain (ap (λ (x : LocalRow). x.mark) (sym (same_Some _ _ (ap (λ b. cond b (Some (marked_as Plain was)) (Some was)) (sym t.0) ∙ e)))) (λ f. absurd (cc)) (λ f. absurd (cc))
         tells (inr t) e =
             let is : was ≡ row = same_Some _ _ (ap (λ b. cond b (Some (marked_as Plain was)) (Some was)) (sym t.0) ∙ e) in

@@ -99,7 +99,8 @@ module _ (maps : Maps) (mappings : Mappings) (log : Log) (next : ℕ) (op : Op) 
     ];
   }
     where
-      mark_of : (was : LocalRow) → HasLocal before was → counts log was ≡ true → IsTrue (reaches op was) → (mark : Mark) → ((q : ℕ) → mark ≡ Old q → q ≡ op.number) → (mark ≡ New → ⊥) → IsMarked log location was mark × IsTrue (mark_below next mark)
+      mark_of : (was : LocalRow) → HasLocal before was → counts log was ≡ true → IsTrue (reaches op was) → (mark : Mark) → ((q : ℕ) → mark ≡ Old q → q ≡ op.number) → (mark ≡ New → ⊥)
+          → IsMarked log location was mark × IsTrue (mark_below next mark)
       mark_of was h c m Plain old not_new = (tt, refl)
       mark_of was h c m New old not_new = absurd (not_new refl)
       mark_of was h c m (Old q) old not_new = (marked, below)
@@ -120,7 +121,8 @@ module _ (maps : Maps) (mappings : Mappings) (log : Log) (next : ℕ) (op : Op) 
   pub swept_locals : (to : Mark) → IsSweepMark log op to → (before after : Locals) → IsSwept log op to before after → LocalCells mappings log next location before → LocalCells mappings log next location after
   swept_locals to k before after swept s = remarked_locals log next location mappings before after s (swept_remarked to k before after swept s)
 
-  pub swept_online : (own : Owner) (to : Mark) → IsSweepMark log op to → (before after : Locals) → IsSwept log op to before after → LocalCells mappings log next location before → OnlineRows maps own log location before → OnlineRows maps own log location after
+  pub swept_online : (own : Owner) (to : Mark) → IsSweepMark log op to → (before after : Locals) → IsSwept log op to before after → LocalCells mappings log next location before
+      → OnlineRows maps own log location before → OnlineRows maps own log location after
   swept_online own to k before after swept s o = remarked_online log next location maps own before after o (swept_remarked to k before after swept s)
 
   -- ---- the news
@@ -302,7 +304,8 @@ module _ (p : ℕ) (location : Text) where
       ap (λ b. map.get (cond b (map.insert m (local_key (new_row p n)) (new_row p n)) m) (local_key (new_row p n))) (ap (same n.location) (sym e) ∙ same_self n.location)
       ∙ get-insert_same locals_total m (local_key (new_row p n)) (new_row p n)
 
-  news_back : (news : List Piece) (m : Locals) (k : Text × (Text × ℕ)) (row : LocalRow) → map.get (with_news p location news m) k ≡ Some row → ((n : Piece) × IsOneOf news n × (n.location ≡ location) × (row ≡ new_row p n)) ⊎ (map.get m k ≡ Some row)
+  news_back : (news : List Piece) (m : Locals) (k : Text × (Text × ℕ)) (row : LocalRow) → map.get (with_news p location news m) k ≡ Some row
+      → ((n : Piece) × IsOneOf news n × (n.location ≡ location) × (row ≡ new_row p n)) ⊎ (map.get m k ≡ Some row)
   news_back [] m k row e = inr e
   news_back (n ∷ news) m k row e = elim (news_back news (put_new n m) k row e) [
     | inl h ↦ inl (h.0, inr h.1, h.2, h.3)

@@ -122,7 +122,8 @@ online_once image sound a b l other here there h g of_map on also key of_type in
 -- ---- what others do
 
 -- A change of the local rows at one site, by whomever, leaves an operation under way where it leaves there what was done and what wasn't.
-pub under_way_local : (image : Image) (op : Op) (sites : List Text) → IsUnderWay image op sites → (l : Text) (after : Locals) → (IsDone op l (locals_at image l) → IsDone op l after) → (IsUnborn op.number (locals_at image l) → IsUnborn op.number after)
+pub under_way_local : (image : Image) (op : Op) (sites : List Text) → IsUnderWay image op sites → (l : Text) (after : Locals) → (IsDone op l (locals_at image l) → IsDone op l after)
+    → (IsUnborn op.number (locals_at image l) → IsUnborn op.number after)
     → IsUnderWay (with_locals image l after) op sites
 under_way_local image op sites w l after keeps_done keeps_unborn = record {
   logged = w.logged;

@@ -24,6 +24,12 @@ pub fn hulls_hold_olds_and_news()
     ensures { (t : ReadTables) → AreMappings t.maps t.mappings → (op : Op) → LawfulOn t op → (p : Piece) → IsOneOf (listed op.olds ++ listed op.news) p → (key : Text) → IsTrue (contains p.span key) → IsTrue (contains op.hull key) }
 {}
 
+/// The olds of a lawful operation are at one site, and so are its news: so it has its marks at two sites at most.
+pub fn olds_and_news_are_together()
+    ensures olds { (t : ReadTables) (op : Op) → LawfulOn t op → (a : Piece) → IsOneOf (listed op.olds) a → (b : Piece) → IsOneOf (listed op.olds) b → a.location ≡ b.location }
+    ensures news { (t : ReadTables) (op : Op) → LawfulOn t op → (a : Piece) → IsOneOf (listed op.news) a → (b : Piece) → IsOneOf (listed op.news) b → a.location ≡ b.location }
+{}
+
 /// What an exchange of mappings leaves, brings and keeps disjoint, where olds and news fit: the news stand, the olds are gone, every other mapping stays, and all are placed, of their map and disjoint.
 pub fn exchanges_keep_mappings()
     ensures exchanged { (maps : Maps) (mappings : Mappings) → AreMappings maps mappings → (name : Text) (hull : Span) (olds news : List Piece) → IsFit maps mappings name hull olds news →

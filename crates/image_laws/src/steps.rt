@@ -27,11 +27,12 @@ pub fn step_keeps_sound()
     ensures done { (image : Image) (op : Op) (location : Text) (after : Locals) → IsStepped (global image).log op location (locals_at image location) after → IsDone op location after }
 {}
 
-/// Undo's sweep of a logged operation at an attached site keeps an image sound, and leaves the rows that overlap the hull Plain.
+/// Undo's sweep of a logged operation at an attached site keeps an image sound, and leaves the rows that overlap the hull Plain, there and where they were so before.
 pub fn undo_keeps_sound()
     ensures sound { (image : Image) → Sound image → (op : Op) → HasLog (global image).log op → (location : Text) → IsAttachedIn image location →
         (after : Locals) → IsSwept (global image).log op Plain (locals_at image location) after → Sound (with_locals image location after) }
     ensures swept { (image : Image) (op : Op) (location : Text) (after : Locals) → IsSwept (global image).log op Plain (locals_at image location) after → IsSweptPlain op after }
+    ensures elsewhere { (image : Image) (op : Op) (location other : Text) (after : Locals) → IsSweptPlain op after → IsSweptPlain op (locals_at image other) → IsSweptPlain op (locals_at (with_locals image location after) other) }
 {}
 
 /// Once an operation is undone at each of its sites its log row goes: the image stays sound, and the meaning stays.
