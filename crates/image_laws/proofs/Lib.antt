@@ -29,8 +29,10 @@ pub mod OwnerLaws
 pub mod Places
 pub mod Remarks
 pub mod RowEdits
+pub mod RowImages
 pub mod RowLaws
 pub mod RowOwners
+pub mod RowsAtOwners
 pub mod ShapeLaws
 pub mod ShapeRows
 pub mod SiteLaws

@@ -6,6 +6,7 @@ pub mod commits;
 pub mod keeping;
 pub mod meanings;
 pub mod progress;
+pub mod rows;
 pub mod shapes;
 pub mod sites;
 pub mod steps;
