@@ -5,6 +5,7 @@ use Rattle.std.specs.List.{list_any}
 use Rattle.std.specs.FinMap as map
 use Rattle.std.specs.FinSet as set
 use Rattle.std.proofs.lemmas.Cmp.{nat_cmp_total}
+use Rattle.std.proofs.lemmas.Map.Lookups.{exact_unsigned}
 use Rattle.std.proofs.lemmas.Option.{same_Some, none-some}
 use Rattle.std.proofs.lemmas.Bool.{cases_Bool, and_parts, and_from}
 use Rattle.cell_world.specs.Texts.{Text}
@@ -189,7 +190,7 @@ module _ (image : Image) (sound : Sound image) (op : Op) (law : Lawful image op)
     keep_keyed : JobParts → (place : Place) → IsKeyed (committed.at place)
     keep_keyed parts Global =
         let h = sound.keyed Global in
-        record { mappings = placed_exchanged (listed op.olds) (listed op.news) g.mappings h.mappings; log = keyed-remove nat_cmp_total (λ (o : Op). o.number) g.log op.number h.log; jobs = parts.keyed; locals = h.locals }
+        record { mappings = placed_exchanged (listed op.olds) (listed op.news) g.mappings h.mappings; log = keyed-remove nat_cmp_total (λ (o : Op). o.number) exact_unsigned g.log op.number h.log; jobs = parts.keyed; locals = h.locals }
     keep_keyed parts (Shard l) = sound.keyed (Shard l)
 
     on_shards : (p : Piece) → HasPiece after_mappings p → HasShard g.shards p.map p.location

@@ -1,15 +1,13 @@
 -- Mappings that are taken out, and mappings that are put.
-use Rattle.std.proofs.Common.{◌≡◌, ◌⊎◌, Bool, true, false, cond, refl, sym, ap, ◌∙◌, subst, Some, None, inl, inr, List, [], ◌∷◌}
+use Rattle.std.proofs.Common.{◌≡◌, ◌⊎◌, refl, sym, ap, ◌∙◌, subst, Some, None, inl, inr, List, [], ◌∷◌}
 use Rattle.std.specs.FinMap as map
-use Rattle.std.specs.Ordering.{eq_by_cmp}
 use Rattle.std.proofs.lemmas.Option.{same_Some, none-some}
 use Rattle.cell_world.specs.Texts.{Text}
 use Rattle.cell_world.specs.Lists.{IsOneOf, SomeOf}
-use Rattle.cell_world.specs.Orders.{pair_cmp}
 use Rattle.cell_world.specs.Stores.{Mappings, piece_key, without, with_all, exchanged}
 use Rattle.cell_world.specs.Sound.{HasPiece}
 use Rattle.cell_world.specs.declared.operations.Piece.{Piece}
-use Rattle.cell_world.proofs.OrderLaws.{pairs_total, exact_text_pairs, tied_is}
+use Rattle.cell_world.proofs.OrderLaws.{pairs_total, exact_text_pairs}
 use Rattle.cell_world.proofs.StoreLaws.{get-insert_same, get-insert_cases, get-remove_cases, get-remove_same}
 use Rattle.cell_world.proofs.KeyedLaws.{keyed-insert, keyed-remove}
 use Rattle.image_laws.proofs.OwnerLaws.{PlacedAlone}
@@ -23,37 +21,30 @@ IsKeyOfOne pieces k = SomeOf (λ p. piece_key p ≡ k) pieces
 
 pub placed_without : (olds : List Piece) (m : Mappings) → PlacedAlone m → PlacedAlone (without m olds)
 placed_without [] m h = h
-placed_without (o ∷ olds) m h = placed_without olds (map.remove m (piece_key o)) (keyed-remove pairs_total piece_key m (piece_key o) h)
+placed_without (o ∷ olds) m h = placed_without olds (map.remove m (piece_key o)) (keyed-remove pairs_total piece_key exact_text_pairs m (piece_key o) h)
 
 pub without_back : (olds : List Piece) (m : Mappings) (k : Text × Text) (q : Piece) → map.get (without m olds) k ≡ Some q → (map.get m k ≡ Some q) × (IsKeyOfOne olds k → ⊥)
 without_back [] m k q e = (e, λ h. h)
-without_back (o ∷ olds) m k q e = by (without_back olds (map.remove m (piece_key o)) k q e) (get-remove_cases pairs_total m (piece_key o) k)
+without_back (o ∷ olds) m k q e = by (without_back olds (map.remove m (piece_key o)) k q e) (get-remove_cases pairs_total exact_text_pairs m (piece_key o) k)
   where
     not_it : (map.get (map.remove m (piece_key o)) k ≡ Some q) → (IsKeyOfOne olds k → ⊥) → IsKeyOfOne (o ∷ olds) k → ⊥
     not_it g none (inl is) = none-some q (sym (get-remove_same pairs_total m (piece_key o)) ∙ ap (map.get (map.remove m (piece_key o))) is ∙ g)
     not_it g none (inr h) = none h
 
-    by : (map.get (map.remove m (piece_key o)) k ≡ Some q) × (IsKeyOfOne olds k → ⊥) → (map.get (map.remove m (piece_key o)) k ≡ None) ⊎ (map.get (map.remove m (piece_key o)) k ≡ map.get m k)
+    by : (map.get (map.remove m (piece_key o)) k ≡ Some q) × (IsKeyOfOne olds k → ⊥) → ((k ≡ piece_key o) × (map.get (map.remove m (piece_key o)) k ≡ None)) ⊎ (map.get (map.remove m (piece_key o)) k ≡ map.get m k)
         → (map.get m k ≡ Some q) × (IsKeyOfOne (o ∷ olds) k → ⊥)
-    by more (inl none) = absurd (none-some q (sym none ∙ more.0))
+    by more (inl c) = absurd (none-some q (sym c.1 ∙ more.0))
     by more (inr same) = (sym same ∙ more.0, not_it more.0 more.1)
 
 -- what stood under a key stands, or one of those taken out has that key
 pub without_kept : (olds : List Piece) (m : Mappings) (k : Text × Text) → IsKeyOfOne olds k ⊎ (map.get (without m olds) k ≡ map.get m k)
 without_kept [] m k = inr refl
-without_kept (o ∷ olds) m k = by (without_kept olds (map.remove m (piece_key o)) k) (removed (piece_key o))
+without_kept (o ∷ olds) m k = by (without_kept olds (map.remove m (piece_key o)) k) (get-remove_cases pairs_total exact_text_pairs m (piece_key o) k)
   where
-    removed : (x : Text × Text) → (x ≡ k) ⊎ (map.get (map.remove m x) k ≡ map.get m k)
-    removed x = test (eq_by_cmp pair_cmp k x) refl
-      where
-        test : (b : Bool) → eq_by_cmp pair_cmp k x ≡ b → (x ≡ k) ⊎ (map.get (map.remove m x) k ≡ map.get m k)
-        test true t = inl (sym (tied_is exact_text_pairs k x t))
-        test false t = inr (map.get-remove pairs_total m x k ∙ ap (λ b. cond b None (map.get m k)) t)
-
     by : IsKeyOfOne olds k ⊎ (map.get (without (map.remove m (piece_key o)) olds) k ≡ map.get (map.remove m (piece_key o)) k)
-        → (piece_key o ≡ k) ⊎ (map.get (map.remove m (piece_key o)) k ≡ map.get m k) → IsKeyOfOne (o ∷ olds) k ⊎ (map.get (without m (o ∷ olds)) k ≡ map.get m k)
+        → ((k ≡ piece_key o) × (map.get (map.remove m (piece_key o)) k ≡ None)) ⊎ (map.get (map.remove m (piece_key o)) k ≡ map.get m k) → IsKeyOfOne (o ∷ olds) k ⊎ (map.get (without m (o ∷ olds)) k ≡ map.get m k)
     by (inl h) r = inl (inr h)
-    by (inr e) (inl is) = inl (inl is)
+    by (inr e) (inl c) = inl (inl (sym c.0))
     by (inr e) (inr same) = inr (e ∙ same)
 
 -- ---- put

@@ -98,5 +98,5 @@ module _ (f : LocalRow → Option LocalRow) (keeps : KeepsKeys f) where
   made_keyed (row ∷ rows) m h = made_keyed rows (put_in m row (f row)) (by (f row))
     where
       by : (o : Option LocalRow) → AreKeyed (put_in m row o)
-      by None = keyed-remove locals_total local_key m (local_key row) h
+      by None = keyed-remove locals_total local_key exact_locals m (local_key row) h
       by (Some now) = keyed-insert locals_total local_key exact_locals m now h

@@ -2,6 +2,7 @@
 use Rattle.std.proofs.Common.{◌≡◌, ◌≢◌, ◌⊎◌, ℕ, ◌<◌, true, false, cond, eqb, refl, sym, ap, ◌∙◌, subst, Some, None, inl, inr}
 use Rattle.std.specs.FinMap as map
 use Rattle.std.proofs.lemmas.Cmp.{nat_cmp_total}
+use Rattle.std.proofs.lemmas.Map.Lookups.{exact_unsigned}
 use Rattle.std.proofs.lemmas.Option.{same_Some, none-some, option_and_then_some}
 use Rattle.std.proofs.lemmas.Bool.Decides.{eqb_tells}
 use Rattle.cell_world.specs.Texts.{Text}
@@ -99,7 +100,7 @@ module _ (image : Image) (sound : Sound image) (op : Op) (logged : HasLog (globa
       by clear = free_cleared g.maps g.mappings maps_ok g.log (next_operation image) log_ok op logged l (locals l) (sound.locals l here) clear
 
   keep_keyed : (place : Place) → IsKeyed (unlogged.at place)
-  keep_keyed Global = let h = sound.keyed Global in record { mappings = h.mappings; log = keyed-remove nat_cmp_total (λ (o : Op). o.number) g.log op.number h.log; jobs = h.jobs; locals = h.locals }
+  keep_keyed Global = let h = sound.keyed Global in record { mappings = h.mappings; log = keyed-remove nat_cmp_total (λ (o : Op). o.number) exact_unsigned g.log op.number h.log; jobs = h.jobs; locals = h.locals }
   keep_keyed (Shard l) = sound.keyed (Shard l)
 
   -- Once it is undone at all its sites its log row goes, and the image stays sound.
