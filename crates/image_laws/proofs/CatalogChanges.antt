@@ -23,11 +23,11 @@ use Rattle.cell_world.specs.declared.operations.Reach.TheVariants as reach
 use Rattle.cell_world.specs.declared.cells.Away.TheVariants as away
 use Rattle.cell_world.specs.declared.cells.MapKind.{MapKind}
 use Rattle.cell_world.specs.declared.cells.KeyType.{KeyType}
+use Rattle.cell_world.proofs.ListLaws.{all_at}
 use Rattle.cell_world.proofs.OrderLaws.{pairs_total, exact_texts, exact_text_pairs}
 use Rattle.cell_world.proofs.SpanLaws.{same_is, same_self, not_true, not_false}
 use Rattle.cell_world.proofs.StoreLaws.{get-insert_other, get-remove_other, contains-insert_cases, contains-remove_other}
 use Rattle.image_laws.specs.Catalogs.{Serves, HasGrown, tables_without, without_map}
-use Rattle.image_laws.proofs.Lists.{all_at}
 use Rattle.image_laws.proofs.Places.{new_site, is_among_of}
 
 -- ---- one that grew

@@ -28,9 +28,9 @@ use Rattle.cell_world.specs.declared.cells.Status.TheVariants.{Online}
 use Rattle.cell_world.specs.declared.cells.MapKind.{MapKind}
 use Rattle.cell_world.specs.declared.cells.MapKind.TheVariants as kind
 use Rattle.cell_world.specs.declared.cells.KeyType.{KeyType}
+use Rattle.cell_world.proofs.ListLaws.{all_at, all_from, in_first}
 use Rattle.cell_world.proofs.SpanLaws.{holds_low}
 use Rattle.image_laws.specs.Catalogs.{with_catalog, Serves}
-use Rattle.image_laws.proofs.Lists.{all_at, all_from, in_first}
 use Rattle.image_laws.proofs.OwnerLaws.{found_stands, owner_stands}
 use Rattle.image_laws.proofs.MeaningLaws.{same_rows}
 

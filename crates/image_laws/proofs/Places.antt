@@ -10,10 +10,11 @@ use Rattle.cell_world.specs.Lawful.{Lawful}
 use Rattle.cell_world.specs.Sound.{IsAttachedIn}
 use Rattle.cell_world.specs.declared.operations.Piece.{Piece}
 use Rattle.cell_world.specs.declared.operations.Op.{Op}
+use Rattle.cell_world.proofs.ListLaws.{all_at, in_first, in_second}
 use Rattle.cell_world.proofs.SpanLaws.{same_self}
-use Rattle.image_laws.proofs.Lists.{all_at, in_first, in_second, or_true}
+use Rattle.image_laws.proofs.Lists.{or_true}
 
-location_in : (pieces : List Piece) (p : Piece) → IsOneOf pieces p → IsOneOf (locations_of pieces) p.location
+pub location_in : (pieces : List Piece) (p : Piece) → IsOneOf pieces p → IsOneOf (locations_of pieces) p.location
 location_in [] p h = absurd h
 location_in (q ∷ pieces) p (inl e) = inl (ap (λ (x : Piece). x.location) e)
 location_in (q ∷ pieces) p (inr h) = inr (location_in pieces p h)

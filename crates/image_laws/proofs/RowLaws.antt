@@ -1,15 +1,14 @@
 -- Rows that are put and deleted at the owner of their key.
-use Rattle.std.proofs.Common.{◌≡◌, Bool, true, false, cond, not, refl, sym, ap, ◌∙◌, subst, Some, None, Option, ◌&&◌}
+use Rattle.std.proofs.Common.{◌≡◌, Bool, true, false, cond, refl, sym, ap, ◌∙◌, Some, None, Option, ◌&&◌}
 use Rattle.std.specs.Prelude.{option_and_then}
 use Rattle.std.specs.Ordering.{eq_by_cmp}
 use Rattle.std.specs.FinMap as map
 use Rattle.cell_world.specs.Texts.{Text}
-use Rattle.cell_world.specs.Keys.{same, is_among}
+use Rattle.cell_world.specs.Keys.{same}
 use Rattle.cell_world.specs.Orders.{row_cmp}
 use Rattle.cell_world.specs.Stores.{Store, Rows, put, delete}
 use Rattle.cell_world.specs.Images.{Image, Shard, global, with_store}
-use Rattle.cell_world.specs.Plain.{Held, holds_nothing, is_attached}
-use Rattle.cell_world.specs.Meaning.{meaning, row_at, owner_of, is_attached_at, held_at}
+use Rattle.cell_world.specs.Meaning.{meaning, row_at, owner_of, is_attached_at}
 use Rattle.cell_world.specs.Sound.{IsAttachedIn}
 use Rattle.cell_world.specs.declared.cells.Cell.TheVariants as cell
 use Rattle.cell_world.specs.declared.cells.CellKey.TheVariants as at
@@ -17,32 +16,13 @@ use Rattle.cell_world.specs.declared.cells.RowName.{RowName}
 use Rattle.cell_world.specs.declared.operations.Piece.{Piece}
 use Rattle.cell_world.proofs.OrderLaws.{rows_total, exact_rows, tied_is, tied}
 use Rattle.cell_world.proofs.SpanLaws.{same_is, same_self}
+use Rattle.image_laws.proofs.HeldLaws.{held_stays}
 use Rattle.image_laws.proofs.MeaningLaws.{get-rows}
 
 -- The rows at one site are changed.
 module _ (image : Image) (location : Text) (rows : Rows) where
   abbrev pub with_rows : Image
   with_rows = with_store image (Shard location) (record (image.at (Shard location)) { rows = rows })
-
-  -- Where the site is attached, what a site that is away holds stays.
-  pub held_stays : IsAttachedIn image location → (other : Text) → held_at with_rows other ≡ held_at image other
-  held_stays here other = by (is_among image.locations other) (is_attached (map.get (global image).away other)) (same location other) refl refl
-    where
-      new : Store
-      new = record (image.at (Shard location)) { rows = rows }
-
-      held_of : Store → Held
-      held_of store = record { locals = store.locals; rows = store.rows }
-
-      by : (a b c : Bool) → is_attached (map.get (global image).away other) ≡ b → same location other ≡ c
-          → ◌≡◌ {A = Held} (cond (a && not b) (held_of (cond c new (image.at (Shard other)))) holds_nothing) (cond (a && not b) (held_of (image.at (Shard other))) holds_nothing)
-      by false b c e f = refl
-      by true true c e f = refl
-      by true false false e f = refl
-      by true false true e f =
-          let off : is_attached (map.get (global image).away location) ≡ false = subst (λ l. is_attached (map.get (global image).away l) ≡ false) (sym (same_is location other f)) e in
-          let on : is_attached (map.get (global image).away location) ≡ true = here.attached in
-          cc
 
 -- The rows at an attached site that owns a row's key are changed at that row alone.
 module _ (image : Image) (row : RowName) (p : Piece) (owned : owner_of image row.map row.key ≡ Some p) (here : IsAttachedIn image p.location)
@@ -79,7 +59,7 @@ module _ (image : Image) (row : RowName) (p : Piece) (owned : owner_of image row
 
   -- The meaning gets the rows that are its own with this one changed, and nothing else.
   pub meaning-rows : (wanted : Rows) → ((q : RowName) → map.get wanted q ≡ cond (eq_by_cmp row_cmp q row) value (map.get (meaning image).rows q)) → meaning after ≡ record (meaning image) { rows = wanted }
-  meaning-rows wanted is = λ i. record (meaning image) { rows = same i; held = λ l. held_stays image p.location rows here l i }
+  meaning-rows wanted is = λ i. record (meaning image) { rows = same i; held = λ l. held_stays image p.location (record (image.at (Shard p.location)) { rows = rows }) here l i }
     where
       same : (meaning after).rows ≡ wanted
       same = map.same_map rows_total exact_rows (meaning after).rows wanted (λ q. get-rows after q ∙ changed_row_at q ∙ ap (cond (eq_by_cmp row_cmp q row) value) (sym (get-rows image q)) ∙ sym (is q))

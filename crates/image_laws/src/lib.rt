@@ -1,6 +1,12 @@
-//! Laws of images: what their rows are, what a change of one store changes of their meaning, and what keeps them sound. There is no code here, so there are no edits.
+//! Laws of images: what keeps them sound, what they stand for after a change, and how operations come along on them. There is no code here, so there are no edits.
 #![tactic(auto)]
 
 pub mod catalogs;
+pub mod commits;
 pub mod keeping;
 pub mod meanings;
+pub mod progress;
+pub mod rows;
+pub mod shapes;
+pub mod sites;
+pub mod steps;
