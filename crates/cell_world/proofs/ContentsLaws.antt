@@ -1,5 +1,4 @@
 -- Facts of the contents that a world tells.
-use Rattle.std.proofs.Common.{◌≡◌}
 use Rattle.cell_world.specs.Stores.{IsStore}
 use Rattle.cell_world.specs.Images.{Image, Global, global, image_at, end_of_trail}
 use Rattle.cell_world.specs.Outside.{Told, TellsNothing, TellsContents, TellsTrail, IfContents, TellsCells}

@@ -6,28 +6,10 @@ ghost use Rattle.cell_world.specs.declared.limits.TheConstants.{KEY_TEXT_BYTES, 
 
 use crate::limits::{KEY_TEXT_BYTES, NAME_BYTES, PART_BYTES};
 
-fn is_letter(byte: u8) -> bool
-    ensures { result ≡ is_letter byte }
-{
-    matches!(byte, b'A'..=b'Z' | b'a'..=b'z')
-}
-
-fn is_digit(byte: u8) -> bool
-    ensures { result ≡ is_digit byte }
-{
-    matches!(byte, b'0'..=b'9')
-}
-
-fn is_name_byte(byte: u8) -> bool
-    ensures { result ≡ is_name_byte byte }
-{
-    matches!(byte, b'A'..=b'Z' | b'a'..=b'z' | b'0'..=b'9' | b'_')
-}
-
 fn all_name_bytes(bytes: &[u8]) -> bool
     ensures { result ≡ list_all is_name_byte bytes.now }
 {
-    bytes.iter().all(|byte| is_name_byte(*byte))
+    bytes.iter().all(|byte| matches!(*byte, b'A'..=b'Z' | b'a'..=b'z' | b'0'..=b'9' | b'_'))
 }
 
 /// Whether the bytes are a name.
@@ -38,7 +20,7 @@ pub(crate) fn is_name(bytes: &[u8]) -> bool
     match bytes {
         [] => false,
         [first, rest @ ..] => {
-            let letter = is_letter(*first);
+            let letter = matches!(*first, b'A'..=b'Z' | b'a'..=b'z');
             let fits = rest.len() < NAME_BYTES;
             let inner = all_name_bytes(rest);
             letter && (fits && inner)
@@ -66,8 +48,8 @@ fn is_part(bytes: &[u8]) -> bool
     match bytes {
         [] => false,
         [first, rest @ ..] => {
-            let start = is_letter(*first);
-            let digit = is_digit(*first);
+            let start = matches!(*first, b'A'..=b'Z' | b'a'..=b'z');
+            let digit = matches!(*first, b'0'..=b'9');
             let fits = rest.len() < PART_BYTES;
             let inner = all_part_bytes(rest);
             (start || digit) && (fits && inner)
@@ -97,16 +79,10 @@ pub(crate) fn is_location(bytes: &[u8]) -> bool
     }
 }
 
-fn is_key_text_byte(byte: u8) -> bool
-    ensures { result ≡ is_key_text_byte byte }
-{
-    matches!(byte, b'!'..=b'~')
-}
-
 fn all_key_text_bytes(bytes: &[u8]) -> bool
     ensures { result ≡ list_all is_key_text_byte bytes.now }
 {
-    bytes.iter().all(|byte| is_key_text_byte(*byte))
+    bytes.iter().all(|byte| matches!(*byte, b'!'..=b'~'))
 }
 
 /// Whether the bytes are a key as it is written.

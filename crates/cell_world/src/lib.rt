@@ -3,12 +3,10 @@
 
 pub mod cells;
 pub mod changes;
-pub mod comparing;
 mod grammar;
 pub mod items;
 pub mod key_texts;
 mod known;
-pub mod laws;
 pub mod limits;
 pub mod locations;
 pub mod memory;

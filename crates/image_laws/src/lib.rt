@@ -3,6 +3,7 @@
 
 pub mod catalogs;
 pub mod commits;
+pub mod comparing;
 pub mod keeping;
 pub mod meanings;
 pub mod progress;
@@ -10,3 +11,4 @@ pub mod rows;
 pub mod shapes;
 pub mod sites;
 pub mod steps;
+pub mod stores;

@@ -1,6 +1,6 @@
 use Rattle.cell_world.specs.declared.spans.Span.TheVariants.{Range}
 use Rattle.cell_world.proofs.SpanLaws.{overlaps_point, point_overlaps, points_overlap}
-use Rattle.cell_world.proofs.laws.overlap_at_points.Goals as goal
+use Rattle.image_laws.proofs.stores.overlap_at_points.Goals as goal
 
 pub returns-clause-range_and_point : goal.returns-clause-range_and_point
 returns-clause-range_and_point c low high = overlaps_point (Range low high)

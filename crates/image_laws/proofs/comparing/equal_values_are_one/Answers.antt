@@ -1,6 +1,6 @@
 -- Local rows, mappings, operations, jobs and their parts are equal exactly where they are the same.
 use Rattle.cell_world.proofs.Exact.{each_local_row, each_piece, all_pieces, jobs, extras, ops}
-use Rattle.cell_world.proofs.comparing.equal_values_are_one.Goals as goal
+use Rattle.image_laws.proofs.comparing.equal_values_are_one.Goals as goal
 
 pub returns-clause-local_rows : goal.returns-clause-local_rows
 returns-clause-local_rows c = each_local_row

@@ -1,5 +1,5 @@
 use Rattle.cell_world.proofs.SpanLaws.{overlap_is_shared, overlaps_comm}
-use Rattle.cell_world.proofs.laws.overlap_is_shared.Goals as goal
+use Rattle.image_laws.proofs.stores.overlap_is_shared.Goals as goal
 
 pub returns-clause-shared : goal.returns-clause-shared
 returns-clause-shared c = overlap_is_shared

@@ -1,5 +1,5 @@
 use Rattle.cell_world.proofs.KeyedLaws.{cell_at-empty, store_empty, store_changed}
-use Rattle.cell_world.proofs.laws.stores_stay_stores.Goals as goal
+use Rattle.image_laws.proofs.stores.stores_stay_stores.Goals as goal
 
 pub returns-clause-nothing : goal.returns-clause-nothing
 returns-clause-nothing c = cell_at-empty
