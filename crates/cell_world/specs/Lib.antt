@@ -13,6 +13,7 @@ pub mod Lawful
 pub mod Lists
 pub mod Marked
 pub mod Meaning
+pub mod Members
 pub mod Operations
 pub mod Orders
 pub mod Outside

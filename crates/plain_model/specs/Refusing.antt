@@ -4,6 +4,7 @@ use Rattle.std.specs.List.{list_any}
 use Rattle.std.specs.FinMap as map
 use Rattle.std.specs.FinSet as set
 use Rattle.cell_world.specs.Texts.{Text}
+use Rattle.cell_world.specs.Members.{members}
 use Rattle.cell_world.specs.Keys.{same, before, contains, overlaps, low_of, end_of, same_end, end_below}
 use Rattle.cell_world.specs.KeyForms.{normal_of}
 use Rattle.cell_world.specs.Plain.{PlainState, Connection, owner, is_location_of}
@@ -174,7 +175,7 @@ map_exists s name = (map.contains_key s.maps name, MapExists)
 
 -- the map has a shard
 abbrev pub map_in_use : PlainState → Text → Check
-map_in_use s name = (list_any (λ shard. same name shard.0) (set.items s.shards), MapInUse)
+map_in_use s name = (list_any (λ shard. same name shard.0) (members s.shards), MapInUse)
 
 -- the world knows no such location
 abbrev pub no_location : PlainState → Text → Check
@@ -322,7 +323,7 @@ full_of_maps s = (nat_le MOST_MAPS (map.len s.maps), Full)
 
 -- the map has as many tables as it may
 abbrev pub full_of_tables : PlainState → Text → Check
-full_of_tables s name = (nat_le MOST_TABLES (length (filter (λ table. same name table.0) (set.items s.tables))), Full)
+full_of_tables s name = (nat_le MOST_TABLES (length (filter (λ table. same name table.0) (members s.tables))), Full)
 
 -- as many jobs stand as may, or the last job number was given
 abbrev pub full_of_jobs : PlainState → Check

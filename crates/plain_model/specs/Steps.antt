@@ -3,6 +3,7 @@ use Rattle.std.specs.Prelude.{ℕ, ◌+◌, Bool, true, false, ◌&&◌, not, �
 use Rattle.std.specs.FinMap as map
 use Rattle.std.specs.FinSet as set
 use Rattle.cell_world.specs.Texts.{Text}
+use Rattle.cell_world.specs.Members.{members}
 use Rattle.cell_world.specs.Keys.{same, below, contains, low_of, end_of, end_below}
 use Rattle.cell_world.specs.Stores.{Mappings, Jobs, Locals, Rows, local_key, exchanged}
 use Rattle.cell_world.specs.Jobs.{part_of}
@@ -268,7 +269,7 @@ mappings_of_map s name = filter (λ p. same name p.map) (map.values s.mappings)
 
 -- the shards of a map, in byte order
 abbrev pub shards_of_map : PlainState → Text → List Text
-shards_of_map s name = filter_map (λ shard. if same name shard.0 then Some shard.1 else None) (set.items s.shards)
+shards_of_map s name = filter_map (λ shard. if same name shard.0 then Some shard.1 else None) (members s.shards)
 
 abbrev pub shown_location : Option Piece → Reply
 shown_location None = reply.Ok
