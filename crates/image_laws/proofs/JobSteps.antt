@@ -33,8 +33,9 @@ use Rattle.image_laws.proofs.FitLaws.{exchange, owner_stays, owner_was_old, new_
 use Rattle.image_laws.proofs.JobKinds.{MergeStep, SplitStep, BatchStep, BatchKind, Off, Move, On, end_trans}
 use Rattle.image_laws.proofs.JobRange.{InRange, in_span, key_of, range_of, cursor_in_range, not_and, before_within}
 use Rattle.image_laws.proofs.JobTable.{ends_at_range, end_not_below, end_not_self, same_end_self}
-use Rattle.image_laws.proofs.ShapeLaws.{of_one, of_two, below_or, not_back, not_below_self}
+use Rattle.image_laws.proofs.ShapeLaws.{below_or, not_back, not_below_self}
 use Rattle.image_laws.proofs.ShapeRows.{HaveToken}
+use Rattle.image_laws.proofs.StepLists.{in_one, in_two, first_of, second_of, some_of}
 
 module _ (maps : Maps) (mappings : Mappings) (m : AreMappings maps mappings) (op : Op) (fit : IsFit maps mappings op.map op.hull (listed op.olds) (listed op.news)) (tokens : HaveToken (listed op.olds) (listed op.news))
     (shards : Shards) (next : ℕ) (job : JobRow) (j : JobCells maps shards mappings next job) (of_map : op.map ≡ job.map) where
@@ -140,23 +141,6 @@ module _ (maps : Maps) (mappings : Mappings) (m : AreMappings maps mappings) (op
         | inl old ↦ let n = put.ends p.0 old p.3 in (n.0, new_stands n.0 n.1, new_of_map n.0 n.1, n.2)
         | inr stays ↦ (p.0, stays, p.2, p.3)
       ]
-
-  -- ---- the lists of a step
-
-  in_one : (xs : List Piece) (a : Piece) → xs ≡ a ∷ [] → (P : Piece → Type 0) → P a → (x : Piece) → IsOneOf xs x → P x
-  in_one xs a e P p x h = of_one P p x (subst (λ ys. IsOneOf ys x) e h)
-
-  in_two : (xs : List Piece) (a b : Piece) → xs ≡ a ∷ b ∷ [] → (P : Piece → Type 0) → P a → P b → (x : Piece) → IsOneOf xs x → P x
-  in_two xs a b e P p q x h = of_two P p q x (subst (λ ys. IsOneOf ys x) e h)
-
-  first_of : (xs : List Piece) (a : Piece) (ys : List Piece) → xs ≡ a ∷ ys → IsOneOf xs a
-  first_of xs a ys e = subst (λ zs. IsOneOf zs a) (sym e) (inl refl)
-
-  second_of : (xs : List Piece) (a b : Piece) → xs ≡ a ∷ b ∷ [] → IsOneOf xs b
-  second_of xs a b e = subst (λ zs. IsOneOf zs b) (sym e) (inr (inl refl))
-
-  some_of : (xs : List Piece) (a : Piece) (ys : List Piece) → xs ≡ a ∷ ys → (xs ≡ []) → ⊥
-  some_of xs a ys e f = let g : (a ∷ ys) ≡ [] = sym e ∙ f in absurd (cc)
 
   module _ (rows : Text → Rows) (shape : HasShape rows olds news) where
     pub split_put : SplitStep job olds news op.extra → StayPut

@@ -40,6 +40,7 @@ pub mod SoundParts
 pub mod StaysLawful
 pub mod StepImages
 pub mod StepLaws
+pub mod StepLists
 pub mod TokenImages
 pub mod TransactionLaws
 pub mod UnderWayLaws

@@ -1,4 +1,4 @@
-//! Laws of images: what keeps them sound, what they stand for after a change, and how operations come along on them. There is no code here, so there are no edits.
+//! Laws of stores and of images: what keeps them sound, what they stand for after a change, and how operations come along on them. There is no code here, so there are no edits.
 #![tactic(auto)]
 
 pub mod catalogs;
