@@ -1,0 +1,4 @@
+pub mod CacheLaws
+pub mod NumberLaws
+pub mod OpenLaws
+pub mod TriedLaws
