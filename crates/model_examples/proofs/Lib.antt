@@ -14,5 +14,6 @@ pub mod Planned
 pub mod Recoveries
 pub mod RunStatuses
 pub mod Served
+pub mod SuspectRun
 pub mod Texts
 pub mod UnknownLocations

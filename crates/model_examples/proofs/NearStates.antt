@@ -101,7 +101,7 @@ cut_status status key = by (at_most (small_key 0) key) (below key (small_key 10)
     by false h m false f g e = refl
 
 -- and so of each map
-cut_everywhere : (name key : Text) → local_status (local_rows_of (local_rows (local_row_over (small_range 0 10) Online ∷ [])).locals name) key
+pub cut_everywhere : (name key : Text) → local_status (local_rows_of (local_rows (local_row_over (small_range 0 10) Online ∷ [])).locals name) key
     ≡ local_status (local_rows_of (local_rows (local_row_over (small_range 0 5) Online ∷ local_row_over (small_range 5 10) Online ∷ [])).locals name) key
 cut_everywhere name key = rw (entries_of local_cmp (keyed_locals (local_row_over (small_range 0 10) Online ∷ [])) tt, entries_of local_cmp (keyed_locals (local_row_over (small_range 0 5) Online ∷ local_row_over (small_range 5 10) Online ∷ [])) tt) (by (same name map_m))
   where

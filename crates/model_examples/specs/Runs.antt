@@ -1,10 +1,15 @@
 -- Values of small runs: their scripts, entries, trails and bytes, worlds, and causes of statuses.
 use Rattle.std.specs.Prelude.{◌≡◌, ℕ, true, false, ◌||◌, ◌==◌, List, [], ◌∷◌, ◌++◌, Some, codes, if◌then◌else◌}
+use Rattle.std.specs.FinSet as set
 use Rattle.cell_world.specs.Texts.{Text}
 use Rattle.cell_world.specs.Stores.{Store, empty_store}
-use Rattle.cell_world.specs.Images.{Trail, Happening, Global, Committed, Wrote}
+use Rattle.cell_world.specs.Images.{Image, Trail, Happening, Global, Shard, Committed, Wrote}
 use Rattle.cell_world.specs.Outside.{Outside, Told}
 use Rattle.cell_world.specs.declared.cells.Away.TheVariants.{Suspect}
+use Rattle.cell_world.specs.declared.cells.Cell.TheVariants as cell
+use Rattle.cell_world.specs.declared.cells.LocalRow.{LocalRow}
+use Rattle.cell_world.specs.declared.cells.Status.TheVariants.{Online}
+use Rattle.cell_world.specs.declared.changes.Edit.TheVariants.{Put}
 use Rattle.plain_model.specs.declared.commands.Asked.{Asked}
 use Rattle.plain_model.specs.declared.commands.Command.{Command}
 use Rattle.plain_model.specs.declared.commands.Command.TheVariants as command
@@ -15,7 +20,8 @@ use Rattle.plain_model.specs.declared.finish.Reason.TheVariants.{BadByte}
 use Rattle.plain_model.specs.declared.history.Entry.{Entry}
 use Rattle.plain_model.specs.Legal.{Going}
 use Rattle.plain_model.specs.Headline.{Manner, Causes, has_stopped, is_store_fault}
-use Rattle.model_examples.specs.Values.{map_m, map_n, site_a, site_b, away_of, make_map, answered, naming, silent, at_moment, trail_of}
+use Rattle.plain_model.specs.Worked.{small_range, local_row_over}
+use Rattle.model_examples.specs.Values.{map_m, map_n, site_a, site_b, maps_m, away_of, make_map, answered, naming, silent, at_moment, trail_of, with_global, with_cells, local_cells}
 
 -- ---- trails
 
@@ -138,3 +144,25 @@ too_many_bytes = record nothing_wrong { too_long = Unit {0} }
 
 abbrev pub source_failed : Causes
 source_failed = record nothing_wrong { source_rose = Unit {0} }
+
+-- ---- a suspect site
+
+-- a local row of m that is online over a range
+abbrev pub row_over : ℕ → ℕ → LocalRow
+row_over low high = local_row_over (small_range low high) Online
+
+-- the site `s/a`, a shard of m, is suspect, and has one local row
+abbrev pub suspect_image : Image
+suspect_image = with_cells (with_global (record empty_store { maps = maps_m; shards = set.insert set.empty (map_m, site_a); away = away_of ((site_a, Suspect) ∷ []) })) (local_cells (row_over 0 10 ∷ []))
+
+-- what happened to these stores
+abbrev pub suspect_trail : List Happening → Trail
+suspect_trail happened = record { start = suspect_image; happened = happened }
+
+-- the row is cut at 5
+abbrev pub cut_commit : Happening
+cut_commit = Committed (Shard site_a) (Put (cell.Local (row_over 0 5)) ∷ Put (cell.Local (row_over 5 10)) ∷ []) true
+
+-- a `clear` of the site ends without memory, at a moment
+abbrev pub clearing : ℕ → Entry
+clearing moment = at_moment (answered 1 (command.Clear site_a) reply.Memory) moment

@@ -3,6 +3,7 @@ ghost use Rattle.std.specs.Prelude.{[], ◌∷◌, ◌++◌, Some, None, true, f
 ghost use Rattle.std.specs.FinSet as set;
 ghost use Rattle.cell_world.specs.Stores.{empty_store};
 ghost use Rattle.cell_world.specs.Images.{Global, Shard, Committed, Wrote, Reopened};
+ghost use Rattle.cell_world.specs.Plain.{nobody};
 ghost use Rattle.cell_world.specs.declared.cells.Cell.TheVariants as cell;
 ghost use Rattle.cell_world.specs.declared.cells.Mark.TheVariants.{Old, Plain};
 ghost use Rattle.cell_world.specs.declared.cells.Status.TheVariants.{Online};
@@ -18,11 +19,11 @@ ghost use Rattle.cell_world.specs.declared.cells.CellKey.TheVariants as at;
 ghost use Rattle.cell_world.specs.declared.cells.Away.TheVariants.{Detached};
 ghost use Rattle.plain_model.specs.Refusing.{AcceptsJob};
 ghost use Rattle.plain_model.specs.OnTrail.{NoneOwed};
-ghost use Rattle.plain_model.specs.Legal.{NamesItsOwn, AreNamed, KeepsCounter, KeepsPromises, MayHappen, IsPlanned, IsPlannedIn, Going, AllGoing};
+ghost use Rattle.plain_model.specs.Legal.{Legal, Unfolds, IsAtRest, NamesItsOwn, AreNamed, KeepsCounter, KeepsPromises, MayHappen, IsPlanned, IsPlannedIn, Going, AllGoing};
 ghost use Rattle.plain_model.specs.Timelines.{Happened, Entered};
 ghost use Rattle.plain_model.specs.Worked.{small_key, small_range, local_row_over};
 ghost use Rattle.model_examples.specs.Values.{add_0_10, add_op, after_move, after_split, all_moved_state, answered, at_moment, away_of, closing, copying_image, copying_state, copying_trail, detached_store, finished_state, fresh_image, fresh_state, job_at, local_cells, make_map, map_commit, map_entry, map_m, map_trail, maps_m, move_commit, move_op, naming, nothing_going, silent, site_a, split_op, state_with, trail_of, tried, two_sites, with_global};
-ghost use Rattle.model_examples.specs.Runs.{silent_step, named_step};
+ghost use Rattle.model_examples.specs.Runs.{silent_step, named_step, suspect_image, suspect_trail, cut_commit, clearing};
 
 /// Legal histories: an empty one, a `map` with its commit and its line, and two refused commands.
 pub fn legal_histories()
@@ -56,6 +57,17 @@ pub fn entries_follow()
 pub fn stores_rest()
     ensures never_without_an_entry { LegalByMoments (trail_of (map_commit ∷ [])) 0 nothing_going [] → ⊥ }
     ensures never_after_the_last { LegalByMoments (trail_of (map_commit ∷ [])) 0 nothing_going (closing 0 ∷ []) → ⊥ }
+{}
+
+/// At the end they stand exactly for it, and not only near it: a run may leave the local rows of a suspect site cut otherwise, but then an entry comes after that.
+pub fn stores_stand_at_the_end()
+    ensures with_its_entry { LegalByMoments (suspect_trail (cut_commit ∷ [])) 0 nothing_going (clearing 1 ∷ []) }
+    ensures with_its_entry_in_order { Legal 0 (suspect_trail (cut_commit ∷ [])) nothing_going (clearing 1 ∷ []) }
+    ensures near_without_an_entry { Unfolds 0 suspect_image (Happened cut_commit ∷ []) nobody × IsAtRest suspect_image (Happened cut_commit ∷ []) }
+    ensures never_without_an_entry { LegalByMoments (suspect_trail (cut_commit ∷ [])) 0 nothing_going [] → ⊥ }
+    ensures never_without_an_entry_in_order { Legal 0 (suspect_trail (cut_commit ∷ [])) nothing_going [] → ⊥ }
+    ensures never_after_the_last { LegalByMoments (suspect_trail (cut_commit ∷ [])) 0 nothing_going (clearing 0 ∷ []) → ⊥ }
+    ensures never_after_the_last_in_order { Legal 0 (suspect_trail (cut_commit ∷ [])) nothing_going (clearing 0 ∷ []) → ⊥ }
 {}
 
 /// What happens is what may happen.
