@@ -1,4 +1,5 @@
 pub mod CacheLaws
 pub mod NumberLaws
+pub mod NumbersByMoments
 pub mod OpenLaws
 pub mod TriedLaws

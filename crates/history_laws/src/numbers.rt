@@ -1,15 +1,17 @@
 //! The numbers that a run gives. Each law is the contract of a function that does nothing.
-ghost use Rattle.std.specs.Prelude.{◌≡◌, ◌⊎◌, ◌≤◌, ◌++◌, true, ℕ};
+ghost use Rattle.std.specs.Prelude.{◌≡◌, ◌⊎◌, ◌≤◌, ◌++◌, true, ℕ, Bool, List, Some, slice_get};
 ghost use Rattle.cell_world.specs.Lists.{IsOneOf};
-ghost use Rattle.cell_world.specs.Images.{Image};
+ghost use Rattle.cell_world.specs.Images.{Image, Place, Trail, Committed, image_at, end_of_trail};
 ghost use Rattle.cell_world.specs.Plain.{Connections};
 ghost use Rattle.cell_world.specs.Meaning.{next_operation};
 ghost use Rattle.cell_world.specs.Sound.{Sound};
+ghost use Rattle.cell_world.specs.declared.changes.Edit.{Edit};
 ghost use Rattle.cell_world.specs.declared.operations.Op.{Op};
 ghost use Rattle.plain_model.specs.declared.history.Entry.{Entry};
 ghost use Rattle.plain_model.specs.Timelines.{Timeline, image_of, history_of};
-ghost use Rattle.plain_model.specs.OnTrail.{IsLive, is_open};
-ghost use Rattle.plain_model.specs.Legal.{Unfolds};
+ghost use Rattle.plain_model.specs.OnTrail.{IsLive, is_open, logs_put};
+ghost use Rattle.plain_model.specs.Legal.{AllGoing, Unfolds};
+ghost use Rattle.plain_model.specs.ByMoments.{LegalByMoments};
 ghost use Rattle.plain_model.specs.Running.{AllSound};
 ghost use Rattle.history_laws.specs.Given.{WasEverTried, IsOfRun};
 
@@ -32,4 +34,13 @@ pub fn numbers_are_of_the_run()
         IsOfRun start (image_of start past) op.number }
     ensures named { (since : ℕ) (start : Image) (past : Timeline) (connections : Connections) → Unfolds since start past connections → Sound start → (e : Entry) → IsOneOf (history_of past) e →
         (e.operation ≡ 0) ⊎ IsOfRun start (image_of start past) e.operation }
+{}
+
+/// So it is in a legal history by moments: of each log cell that a commit from the start on was to put, made or not, and of each entry.
+pub fn numbers_by_moments()
+    ensures tried { (trail : Trail) (t0 : ℕ) (going : AllGoing) (history : List Entry) → t0 ≤ end_of_trail trail → LegalByMoments trail t0 going history → Sound (image_at trail t0) →
+        (t : ℕ) (place : Place) (change : List Edit) (took : Bool) (op : Op) → t0 ≤ t → slice_get trail.happened t ≡ Some (Committed place change took) → IsOneOf (logs_put change) op →
+        IsOfRun (image_at trail t0) (image_at trail (end_of_trail trail)) op.number }
+    ensures named { (trail : Trail) (t0 : ℕ) (going : AllGoing) (history : List Entry) → t0 ≤ end_of_trail trail → LegalByMoments trail t0 going history → Sound (image_at trail t0) →
+        (e : Entry) → IsOneOf history e → (e.operation ≡ 0) ⊎ IsOfRun (image_at trail t0) (image_at trail (end_of_trail trail)) e.operation }
 {}
