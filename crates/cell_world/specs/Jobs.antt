@@ -75,18 +75,18 @@ online_of job piece end = Replace (piece ∷ []) (record piece { status = Online
 --
 -- The nine rows, of which the first that holds is taken. lo and hi are the ends of the job's range, e is the end of the batch.
 --
---   phase       case                                                          step                                 given as
---   Idle        a mapping ends at the cursor, and its low key is above lo     merge it with the mapping before it  Always (merge_of earlier piece)
---   Idle        the cursor is hi                                              finish                               Always Finish
---   Idle        the mapping that contains the cursor begins below it          split it at the cursor               Always (split_at piece cursor)
---   Idle        e is below that mapping's high end                            split it at e                        UpTo: split_at piece e
---   Idle        else                                                          offline of [cursor, e)               UpTo: offline_of job piece e
---   Copying(e)  a row of [cursor, e) at the source isn't at the target        copy such rows to the target         not here: no operation
---   Copying(e)  else                                                          move of [cursor, e) to the target    Always (move_of job piece e)
---   Moved(e)    a row of [cursor, e) is at the source                         delete such rows at the source       not here: no operation
---   Moved(e)    else                                                          online of [cursor, e)                Always (online_of job piece e)
+--   phase       case                                                          step                                                           given as
+--   Idle        a mapping ends at the cursor, and its low key is above lo     merge it with the mapping before it                            Always (merge_of earlier piece)
+--   Idle        the cursor is hi                                              finish                                                         Always Finish
+--   Idle        the mapping that contains the cursor begins below it          split it at the cursor                                         Always (split_at piece cursor)
+--   Idle        e is below that mapping's high end                            split it at e                                                  UpTo: split_at piece e
+--   Idle        else                                                          offline of [cursor, e); puts phase Copying(e)                  UpTo: offline_of job piece e
+--   Copying(e)  a row of [cursor, e) at the source isn't at the target        copy the first 64 such rows in cell order, or all if fewer     not here: no operation
+--   Copying(e)  else                                                          move of [cursor, e) to the target; puts phase Moved(e)         Always (move_of job piece e)
+--   Moved(e)    a row of [cursor, e) is at the source                         delete the first 64 such rows in cell order, or all if fewer   not here: no operation
+--   Moved(e)    else                                                          online of [cursor, e); puts phase Idle and the cursor e        Always (online_of job piece e)
 --
--- Copies and deletions of rows are transactions at one shard, without a log row, and leave the phase. So the rows of the table here are the other seven:
+-- Copies and deletions of rows are one transaction each at one shard, without a log row, and leave the phase. So the rows of the table here are the other seven:
 -- that an online comes only after the deletions is asked of a lawful step, and that a move comes only after the copies follows from the shape of a move.
 
 abbrev pub ends_at : High → Span → Bool

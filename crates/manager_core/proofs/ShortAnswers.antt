@@ -52,6 +52,7 @@ module _ (c : Command) (short : is_short c ≡ true) where
     made image plans sound = record {
       sound = (plans sound 1).sound;
       numbers = (plans sound 1).numbers;
+      log = (plans sound 1).log;
       follows = λ session connections. let so = plans sound session in
           short_done session c short (standing_with image connections) (standing_with (after_one image (short_commit change true)) connections) r answer (so.accepts connections) (so.becomes connections);
     }
@@ -60,12 +61,14 @@ module _ (c : Command) (short : is_short c ≡ true) where
     maybe true image plans sound = record {
       sound = (plans sound 1).sound;
       numbers = (plans sound 1).numbers;
+      log = (plans sound 1).log;
       follows = λ session connections. let so = plans sound session in
           short_made session c short (standing_with image connections) (standing_with (after_one image (short_commit change true)) connections) r (so.accepts connections) (so.becomes connections);
     }
     maybe false image plans sound = record {
       sound = sound;
       numbers = refl;
+      log = refl;
       follows = λ session connections. short_unmade session c short (standing_with image connections) (standing_with image connections) refl;
     }
 

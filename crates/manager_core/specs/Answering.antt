@@ -2,7 +2,7 @@
 use Rattle.std.specs.Prelude.{◌≡◌, ◌⊎◌, ℕ, Bool, true, false, List, [], ◌∷◌, ◌++◌, take, None, Some, Result, Ok, Err}
 use Rattle.cell_world.specs.Texts.{Text}
 use Rattle.cell_world.specs.Counts.{Rose}
-use Rattle.cell_world.specs.Images.{Image, Wrote, after_one}
+use Rattle.cell_world.specs.Images.{Image, Wrote, after_one, global}
 use Rattle.cell_world.specs.Plain.{Connections}
 use Rattle.cell_world.specs.Meaning.{next_operation}
 use Rattle.cell_world.specs.Sound.{Sound}
@@ -36,8 +36,9 @@ AnswersAt c r image = (session : ℕ) (connections : Connections) → FollowsSho
 pub record CommitsAt (c : Command) (r : Reply) (change : List Edit) (took : Bool) (image : Image) : Type 0 where
   -- the stores are sound after it
   pub sound : Sound (after_one image (short_commit change took))
-  -- the operation numbers stay
+  -- the operation numbers stay, and so does the log
   pub numbers : next_operation (after_one image (short_commit change took)) ≡ next_operation image
+  pub log : (global (after_one image (short_commit change took))).log ≡ (global image).log
   -- and they stand for what follows, whoever is connected
   pub follows : (session : ℕ) (connections : Connections) → FollowsShort session c (standing_with image connections) (standing_with (after_one image (short_commit change took)) connections) r
 

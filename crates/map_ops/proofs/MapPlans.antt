@@ -96,13 +96,14 @@ module _ (name : Text) (kind : MapKind) (type : KeyType) where
       becomes = λ connections. ap (λ (b : PlainState). (with_connections b connections, reply.Ok)) (sym (meaning-put_map image sound name kind type new));
       sound = map_keeps_sound image sound name kind type new;
       numbers = refl;
+      log = refl;
     }
 
   pub plans_map : (old mid : Told) (stands full : Bool) → stands ≡ false → full ≡ false → mid ≡ old → IfContents old (Stands stands) → IfContents mid (Fills full)
       → IfContents old (λ image. Sound image → Plans c (Ok (plan.Short reach.Nothing map_change reply.Ok)) image)
   plans_map old mid stands full free room same s f =
       contents_weaker old (λ image. Stands stands image × Fills full image) (λ image. Sound image → Plans c (Ok (plan.Short reach.Nothing map_change reply.Ok)) image)
-      (λ image both sound. changes image sound stands full free room both.0 both.1)
+      (λ image both sound. (refl, changes image sound stands full free room both.0 both.1))
       (both_told old mid stands full same s f)
 
   -- an empty change to which the put was added is this one

@@ -178,6 +178,7 @@ pub fn caused_by_opening()
     ensures unknown { StatusCause whole nothing_wrong (world_of (TellsContents (with_global unknown_store))) (world_of (TellsContents (with_global unknown_store))) [] (status.UnknownLocation site_c) }
     ensures never_the_second { StatusCause whole nothing_wrong (world_of (TellsContents (with_global unknown_store))) (world_of (TellsContents (with_global unknown_store))) [] (status.UnknownLocation site_d) → ⊥ }
     ensures never_unopened { StatusCause until_faults nothing_wrong (world_of (TellsContents (with_global unknown_store))) (world_of (TellsContents (with_global unknown_store))) [] (status.UnknownLocation site_c) → ⊥ }
+    ensures never_a_known_location { StatusCause whole nothing_wrong (world_of TellsNothing) (world_of TellsNothing) [] (status.UnknownLocation site_a) → ⊥ }
     ensures never_of_empty_stores { StatusCause whole nothing_wrong (world_of (TellsContents two_sites)) (world_of (TellsContents two_sites)) [] (status.UnknownLocation site_c) → ⊥ }
 {}
 
@@ -234,6 +235,7 @@ pub fn status_has_cause()
     ensures never_without_its_cause { StatusHasCause whole nothing_wrong (world_of (TellsContents two_sites)) (world_of (TellsContents two_sites)) (list_refused ∷ []) status.Done → ⊥ }
     ensures never_past_wrong_words { StatusHasCause whole wrong_words (world_of (TellsContents two_sites)) (world_of (TellsContents two_sites)) (list_refused ∷ []) status.Refused → ⊥ }
     ensures never_done_at_an_unknown_location { StatusHasCause whole nothing_wrong (world_of (TellsContents (with_global unknown_store))) (world_of (TellsContents (with_global unknown_store))) (list_refused ∷ []) (status.UnknownLocation site_c) → ⊥ }
+    ensures never_an_entry_at_an_unknown_location { StatusHasCause whole nothing_wrong (world_of (TellsContents (with_global unknown_store))) (world_of (TellsContents (with_global unknown_store))) (list_refused ∷ []) status.Memory → ⊥ }
     ensures unopened { StatusHasCause until_faults nothing_wrong (world_of (TellsContents (with_global unknown_store))) (world_of (TellsContents (with_global unknown_store))) (list_refused ∷ []) status.Refused }
     ensures never_past_an_unknown_location { StatusHasCause whole nothing_wrong (world_of (TellsContents (with_global unknown_store))) (world_of (TellsContents (with_global unknown_store))) (list_refused ∷ []) status.Refused → ⊥ }
     ensures never_after_memory { StatusHasCause whole nothing_wrong (world_of TellsNothing) (world_of TellsNothing) (map_answered reply.Memory ∷ second_entry ∷ []) status.Memory → ⊥ }

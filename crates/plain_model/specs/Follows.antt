@@ -19,7 +19,7 @@ use Rattle.plain_model.specs.declared.replies.Reply.{Reply}
 use Rattle.plain_model.specs.declared.replies.Reply.TheVariants as reply
 use Rattle.plain_model.specs.declared.replies.Refusal.TheVariants as refused
 use Rattle.plain_model.specs.declared.history.Entry.{Entry}
-use Rattle.plain_model.specs.Refusing.{refusal, mapping_of, type_of_map}
+use Rattle.plain_model.specs.Refusing.{refusal, mapping_of, type_of_map, AcceptsJob}
 use Rattle.plain_model.specs.Steps.{plain_step}
 use Rattle.plain_model.specs.Caches.{Cache, Learnt, knows, cache_after, is_refused}
 use Rattle.plain_model.specs.Timelines.{Made, Past}
@@ -72,6 +72,8 @@ pub record FollowsJobStep (A B : PlainState) (e : Entry) : Type 0 where
   pub asked : asked_job A e.command ≡ Some job
   -- and B is A after its next step
   pub step : TakesJobStep A B job
+  -- which, where it is the finish, A accepts
+  pub accepted : is_finish_step A e.command ≡ true → AcceptsJob A job.number
 
 -- ---- `cursor KEY`
 

@@ -218,7 +218,7 @@ StatusCause manner causes old new history status.StoreFault = StoreRoseBy 1 old 
 StatusCause manner causes old new history status.Memory = Unit {0}
 StatusCause manner causes old new history status.TooLong = causes.too_long
 -- the stores were looked at, and this is the first location that they name and the world doesn't know
-StatusCause manner causes old new history (status.UnknownLocation location) = (manner.opens ≡ true) × IsUnknown old location
+StatusCause manner causes old new history (status.UnknownLocation location) = (manner.opens ≡ true) × (is_among old.locations location ≡ false) × IsUnknown old location
 
 -- the statuses that come of the words or of the reading
 abbrev pub ends_by_reading : RunStatus → Bool

@@ -24,7 +24,7 @@ use Rattle.plain_model.specs.Timelines.{Timeline, Happened, Entered, image_of, f
 use Rattle.plain_model.specs.Near.{Near}
 use Rattle.plain_model.specs.JobSteps.{asked_number, asked_job, stepped}
 use Rattle.plain_model.specs.Follows.{Follows}
-use Rattle.plain_model.specs.OnTrail.{OnTrail, NoneOwed, WasTried, logs_put, was_reopened}
+use Rattle.plain_model.specs.OnTrail.{OnTrail, NoneOwed, WasTried, WasPut, logs_put, was_reopened}
 
 -- ---- what may happen
 
@@ -90,7 +90,7 @@ image_before start past = image_of start past
 pub record IsMadeBy (start : Image) (past : Timeline) (A : PlainState) (e : Entry) (B : PlainState) (job : JobRow) (op : Op) : Type 0 where
   pub logged : HasLog (global (image_before start past)).log op  -- it stood in the log just before
   -- since this session's previous entry its log cell was put, on an image in which it was the table's row
-  pub planned : WasTried start e.session (λ (image : Image) (tried : Op). (tried ≡ op) × IsPlannedIn image job.number tried) past
+  pub planned : WasPut start e.session (λ (image : Image) (put : Op). (put ≡ op) × IsPlannedIn image job.number put) past
   -- and the step is what it does
   pub step : stepped A job (Replace (listed op.olds) (listed op.news) op.extra) ≡ Some B
 

@@ -155,6 +155,13 @@ WasTried start session P (Happened (Committed place change took) ∷ past) = Som
 WasTried start session P (Happened h ∷ past) = WasTried start session P past
 WasTried start session P (Entered e ∷ past) = MatchBool (e.session == session) ⊥ (WasTried start session P past)
 
+-- Since this session's previous entry a commit that was made put the log cell of such an operation, on such an image.
+abbrev pub WasPut : Image → ℕ → (Image → Op → Type 0) → Timeline → Type 0
+WasPut start session P [] = ⊥
+WasPut start session P (Happened (Committed place change true) ∷ past) = SomeOf (P (image_of start past)) (logs_put change) ⊎ WasPut start session P past
+WasPut start session P (Happened h ∷ past) = WasPut start session P past
+WasPut start session P (Entered e ∷ past) = MatchBool (e.session == session) ⊥ (WasPut start session P past)
+
 -- the operation of this number takes the mapping offline, and does no more
 pub record TakesOffline (number : ℕ) (p : Piece) (op : Op) : Type 0 where
   pub numbered : op.number ≡ number

@@ -1,6 +1,6 @@
--- Short commands: those that are one transaction of the global store, or none.
+-- Short commands: of the commands that are one transaction of the global store, or none, those of maps and mappings. (`job` and the finish of a job are short too, and stand with the jobs.)
 use Rattle.std.specs.Prelude.{◌≡◌, ℕ, Bool, true, false, List, [], Option, Some, None}
-use Rattle.cell_world.specs.Images.{Image, Global, Happening, Committed, after_one}
+use Rattle.cell_world.specs.Images.{Image, Global, Happening, Committed, after_one, global}
 use Rattle.cell_world.specs.Plain.{PlainState, Connections, holds_nothing, with_connections}
 use Rattle.cell_world.specs.Meaning.{meaning, next_operation}
 use Rattle.cell_world.specs.Sound.{Sound}
@@ -48,7 +48,7 @@ is_short_refusal (refused.DifferencesLeft n) = false
 is_short_refusal (refused.StrayRows n) = false
 is_short_refusal other = true
 
--- all their replies
+-- all their replies but `pending`, which needs another session
 abbrev pub is_short_reply : Reply → Bool
 is_short_reply (reply.Refused r) = is_short_refusal r
 is_short_reply reply.Fault = true
@@ -92,8 +92,9 @@ pub record IsShortChange (session : ℕ) (c : Command) (change : List Edit) (r :
   pub becomes : (connections : Connections) → accepted holds_nothing (standing_with image connections) session c ≡ (standing_with (after_one image (short_commit change true)) connections, r)
   -- and they are sound
   pub sound : Sound (after_one image (short_commit change true))
-  -- the operation numbers stay
+  -- the operation numbers stay, and so does the log
   pub numbers : next_operation (after_one image (short_commit change true)) ≡ next_operation image
+  pub log : (global (after_one image (short_commit change true))).log ≡ (global image).log
 
 -- Nothing is changed, and the reply is the plain step's.
 abbrev pub IsShortAnswer : ℕ → Command → Reply → Image → Type 0

@@ -2,6 +2,8 @@ use Rattle.std.proofs.Common.{ℕ, subst, sym}
 use Rattle.std.specs.Prelude.{Ok, Err}
 use Rattle.cell_world.specs.Outside.{IfContents}
 use Rattle.cell_world.specs.Sound.{Sound}
+use Rattle.cell_world.proofs.ContentsLaws.{contents_weaker}
+use Rattle.plain_model.specs.declared.plans.Plan.TheVariants as plan
 use Rattle.map_ops.specs.Planning.{Plans, IsPlanOfOneWord}
 use Rattle.plain_model.specs.ShortCommands.{IsShortChange}
 use Rattle.plain_model.specs.declared.replies.Reply.TheVariants as reply
@@ -12,7 +14,9 @@ use Rattle.manager_core.proofs.answers.answer.Goals as goal
 pub commit_change-requires-clause-plans : goal.commit_change-requires-clause-plans
 commit_change-requires-clause-plans g c =
     let plans = subst (λ p. IfContents (g.W.World.outside c.args.world.now).told (λ image. Sound image → Plans c.args.command.now (Ok p) image)) c.in-Ok-Short.field-0-is c.in-Ok-Short.ensures.plans in
-    subst (λ t. IfContents t (λ image. Sound image → (session : ℕ) → IsShortChange session c.args.command.now c.in-Ok-Short.change c.in-Ok-Short.reply image)) (sym c.in-Ok-Short.ensures.told) plans
+    subst (λ t. IfContents t (λ image. Sound image → (session : ℕ) → IsShortChange session c.args.command.now c.in-Ok-Short.change c.in-Ok-Short.reply image)) (sym c.in-Ok-Short.ensures.told)
+    (contents_weaker (g.W.World.outside c.args.world.now).told (λ image. Sound image → Plans c.args.command.now (Ok (plan.Short c.in-Ok-Short.field-0-0 c.in-Ok-Short.change c.in-Ok-Short.reply)) image)
+    (λ image. Sound image → (session : ℕ) → IsShortChange session c.args.command.now c.in-Ok-Short.change c.in-Ok-Short.reply image) (λ image both sound. (both sound).1) plans)
 
 pub returns-in-Err-Refused-clause-answers : goal.returns-in-Err-Refused-clause-answers
 returns-in-Err-Refused-clause-answers g c =

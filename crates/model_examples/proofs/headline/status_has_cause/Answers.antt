@@ -33,3 +33,6 @@ returns-clause-unopened c = let one : 0 < 1 = omega arith in let none : 0 ≤ 0 
   unknown = λ opens. absurd (true≢false (sym opens));
   kept = record { few_faults = inr none; ends_with_memory = tt; nothing = λ nothing. absurd (true≢false (sym nothing)); unchanged = λ nothing. absurd (true≢false (sym nothing)) };
 }
+
+pub returns-clause-never_an_entry_at_an_unknown_location : goal.returns-clause-never_an_entry_at_an_unknown_location
+returns-clause-never_an_entry_at_an_unknown_location c h = let e : list_refused ∷ [] ≡ [] = (h.unknown refl site_c c_is_first).0 in cc
