@@ -1,5 +1,7 @@
 -- A run in which the copied batch is moved: the operation is logged, then the stores change, and then the step is entered.
 use Rattle.std.proofs.Common.{◌≡◌, true, is_some, refl, sym, ap, ◌∙◌, Some, inl, inr, [], ◌∷◌}
+use Rattle.std.specs.FinMap as fin
+use Rattle.cell_world.specs.ByteOrder.{byte_cmp}
 use Rattle.cell_world.specs.Images.{Image, Global}
 use Rattle.cell_world.specs.Meaning.{meaning}
 use Rattle.cell_world.specs.Orders.{pair_cmp}
@@ -14,7 +16,7 @@ use Rattle.plain_model.specs.Legal.{Legal, IsPlanned}
 use Rattle.plain_model.specs.Timelines.{Happened, Entered, image_of}
 use Rattle.plain_model.specs.Worked.{small_key}
 use Rattle.plain_model.proofs.NearLaws.{near_itself, near_of}
-use Rattle.model_examples.specs.Values.{logging, site_a, keyed_pieces, job_at, job_piece, nothing_going, tried, move_op, move_commit, copying_image, copying_trail}
+use Rattle.model_examples.specs.Values.{logging, site_a, site_b, keyed_pieces, job_at, job_piece, nothing_going, tried, move_op, move_commit, copying_image, copying_trail}
 use Rattle.model_examples.specs.Runs.{named_step}
 use Rattle.plain_model.specs.OnTrail.{InLog, NoneOwed}
 use Rattle.plain_model.proofs.OwedLaws.{none_at_first, none_after_log, open_unnamed, tried_or_open}
@@ -71,7 +73,7 @@ the_move_run = record {
     ((refl, near_itself (meaning copying_image), (refl, refl), none_at_first copying_image), near_of _ _ at_rest, refl, logged_stands),
     record {
       moment = refl;
-      follows = record { job = job; asked = job_stands 0 (Copying (At (small_key 5))); step = takes };
+      follows = record { job = job; asked = job_stands 0 (Copying (At (small_key 5))); step = takes; accepted = λ finish. rw (job_stands 0 (Copying (At (small_key 5))), fin.get-empty byte_cmp site_a, fin.get-empty byte_cmp site_b) refl };
       on_trail = tt;
       planned = rw (job_stands 0 (Copying (At (small_key 5)))) planned;
       own = inr (inr (inl (inl (refl, plans_the_move))));

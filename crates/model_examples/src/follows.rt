@@ -14,7 +14,7 @@ ghost use Rattle.plain_model.specs.declared.replies.Refusal.TheVariants as refus
 ghost use Rattle.plain_model.specs.Follows.{Follows};
 ghost use Rattle.plain_model.specs.Steps.{plain_step, attach, detach};
 ghost use Rattle.plain_model.specs.Worked.{small_key};
-ghost use Rattle.model_examples.specs.Values.{map_m, map_n, away_state, holding, one_row, connected_state, site_a, site_b, make_map, answered, silent, made, empty_state, with_map, job_at, job_piece, fresh_state, copying_state, after_move, after_split, fresh_connected, moved_state, between_state, merging_state, all_moved_state, finished_state};
+ghost use Rattle.model_examples.specs.Values.{map_m, map_n, away_of, away_state, holding, one_row, connected_state, site_a, site_b, make_map, answered, silent, made, empty_state, with_map, job_at, job_piece, fresh_state, copying_state, after_move, after_split, fresh_connected, moved_state, between_state, merging_state, all_moved_state, finished_state};
 
 /// An answer or a refusal is the plain step's, and so is the state.
 pub fn plain_answers()
@@ -62,6 +62,7 @@ pub fn steps_of_jobs()
     ensures split_at_another_end { Follows [] fresh_state (silent 1 (command.Step 1)) after_split None }
     ensures never_without_a_change { Follows [] copying_state (silent 1 (command.Step 1)) copying_state None → ⊥ }
     ensures never_two_steps_at_once { Follows [] copying_state (silent 1 (command.Step 1)) between_state None → ⊥ }
+    ensures never_a_finish_from_a_detached_source { Follows [] (record all_moved_state { away = away_of ((site_a, Detached) ∷ []) }) (silent 1 (command.Step 1)) (record finished_state { away = away_of ((site_a, Detached) ∷ []) }) None → ⊥ }
     ensures never_of_a_job_that_is_gone { Follows [] finished_state (silent 1 (command.Step 1)) finished_state None → ⊥ }
     ensures never_of_another_command { Follows [] empty_state (silent 1 (make_map map_m)) (with_map empty_state map_m) None → ⊥ }
 {}

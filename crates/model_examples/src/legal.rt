@@ -2,7 +2,7 @@
 ghost use Rattle.std.specs.Prelude.{[], ◌∷◌, ◌++◌, Some, None, true, false};
 ghost use Rattle.std.specs.FinSet as set;
 ghost use Rattle.cell_world.specs.Stores.{empty_store};
-ghost use Rattle.cell_world.specs.Images.{Global, Shard, Committed, Wrote, Reopened};
+ghost use Rattle.cell_world.specs.Images.{Global, Shard, Committed, Wrote, Reopened, global, with_store};
 ghost use Rattle.cell_world.specs.Plain.{nobody};
 ghost use Rattle.cell_world.specs.declared.cells.Cell.TheVariants as cell;
 ghost use Rattle.cell_world.specs.declared.cells.Mark.TheVariants.{Old, Plain};
@@ -137,6 +137,7 @@ pub fn planned_operations()
     ensures never_of_another_job { IsPlannedIn copying_image 2 move_op → ⊥ }
     ensures never_another_step { IsPlannedIn fresh_image 1 move_op → ⊥ }
     ensures never_to_another_end { IsPlannedIn fresh_image 1 split_op → ⊥ }
+    ensures never_from_a_detached_source { IsPlannedIn (with_store copying_image Global (record (global copying_image) { away = away_of ((site_a, Detached) ∷ []) })) 1 move_op → ⊥ }
 {}
 
 /// A step of a job that changes mappings or jobs is the finish, or was made by an operation that was planned when it was logged.
@@ -147,6 +148,8 @@ pub fn planned_steps()
     ensures made { IsPlanned copying_image (Happened (Committed Global [] true) ∷ Happened (tried move_op true) ∷ []) copying_state named_step after_move (Some (job_at 0 (Copying (At (small_key 5))))) }
     ensures never_made_by_nothing { IsPlanned copying_image [] copying_state silent_step after_move (Some (job_at 0 (Copying (At (small_key 5))))) → ⊥ }
     ensures never_not_logged { IsPlanned copying_image (Happened (Committed Global [] true) ∷ Happened (tried move_op false) ∷ []) copying_state named_step after_move (Some (job_at 0 (Copying (At (small_key 5))))) → ⊥ }
+    ensures never_tried_only { IsPlanned (with_store copying_image Global (record (global copying_image) { log = fin.insert fin.empty 1 move_op })) (Happened (Committed Global [] true) ∷ Happened (tried move_op false) ∷ [])
+        copying_state named_step after_move (Some (job_at 0 (Copying (At (small_key 5))))) → ⊥ }
     ensures never_to_another_end { IsPlanned fresh_image (Happened (Committed Global [] true) ∷ Happened (tried split_op true) ∷ []) fresh_state named_step after_split (Some (job_at 0 Idle)) → ⊥ }
 {}
 

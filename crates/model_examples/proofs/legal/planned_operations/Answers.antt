@@ -10,7 +10,10 @@ use Rattle.plain_model.specs.JobSteps.{is_moved}
 use Rattle.plain_model.specs.Worked.{small_key}
 use Rattle.model_examples.specs.Values.{site_a, numbered_jobs, job_at, job_piece, fresh_image}
 use Rattle.model_examples.proofs.Lookups.{get_of, differ}
-use Rattle.model_examples.proofs.JobStates.{is_job}
+use Rattle.cell_world.specs.declared.cells.Away.TheVariants.{Detached}
+use Rattle.plain_model.specs.declared.replies.Refusal.TheVariants as refused
+use Rattle.model_examples.proofs.NearStates.{is_away}
+use Rattle.model_examples.proofs.JobStates.{is_job, job_stands}
 use Rattle.model_examples.proofs.Planned.{fresh_step, plans_the_move}
 use Rattle.model_examples.proofs.legal.planned_operations.Goals as goal
 
@@ -34,3 +37,6 @@ returns-clause-never_to_another_end c f =
     let e : Replace (job_piece 0 10 site_a Online ∷ []) (job_piece 0 10 site_a Offline ∷ []) (extra.JobPut (job_at 0 (Copying (At (small_key 10)))))
     ≡ Replace (job_piece 0 10 site_a Online ∷ []) (job_piece 0 3 site_a Online ∷ job_piece 3 10 site_a Online ∷ []) extra.None
     = sym fresh_step ∙ ap (job_step (meaning fresh_image)) (is_job 0 Idle f.job f.stands) ∙ f.row in cc
+
+pub returns-clause-never_from_a_detached_source : goal.returns-clause-never_from_a_detached_source
+returns-clause-never_from_a_detached_source c f = let accepted = f.accepted in let e : Some refused.Detached ≡ None = rw (job_stands 0 (Copying (At (small_key 5))), is_away Detached) at accepted in cc

@@ -59,3 +59,6 @@ not_planned op is planned =
 
 pub returns-clause-never_to_another_end : goal.returns-clause-never_to_another_end
 returns-clause-never_to_another_end c = ⊎_elim (λ same. splits same.0) (⊎_elim (λ f. keeps_the_job f.step) (λ made. ⊎_elim (λ none. absurd none) (⊎_elim (⊎_elim (λ p. not_planned made.0 p.0 p.1) (λ none. absurd none)) (λ none. absurd none)) made.1.planned))
+
+pub returns-clause-never_tried_only : goal.returns-clause-never_tried_only
+returns-clause-never_tried_only c = ⊎_elim (λ same. move_changes_jobs same.1) (⊎_elim (λ f. move_is_no_finish _ _ refl f.step) (λ made. ⊎_elim (λ none. absurd none) (λ none. absurd none) made.1.planned))
