@@ -15,7 +15,7 @@ WasEverTried (Happened (Committed place change took) ∷ past) op = IsOneOf (log
 WasEverTried (Happened h ∷ past) op = WasEverTried past op
 WasEverTried (Entered e ∷ past) op = WasEverTried past op
 
--- the number may be of an operation of the run that led from the one image to the other, and of none before it
+-- what is so of the number of an operation of the run that led from the one image to the other
 pub record IsOfRun (start now : Image) (number : ℕ) : Type 0 where
   -- numbers begin at 1
   pub some : 1 ≤ number
