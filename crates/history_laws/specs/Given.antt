@@ -15,12 +15,13 @@ WasEverTried (Happened (Committed place change took) ∷ past) op = IsOneOf (log
 WasEverTried (Happened h ∷ past) op = WasEverTried past op
 WasEverTried (Entered e ∷ past) op = WasEverTried past op
 
--- the number is of an operation of the run that led from the one image to the other
+-- what is so of the number of an operation of the run that led from the one image to the other
 pub record IsOfRun (start now : Image) (number : ℕ) : Type 0 where
   -- numbers begin at 1
   pub some : 1 ≤ number
-  -- it was the counter's at some moment of the run: at least what that was at the start, and at most what it is now
+  -- it is at least the counter's operation number at the start
   pub from_start : next_operation start ≤ number
+  -- and at most what that is now
   pub to_now : number ≤ next_operation now
   -- the log of the start has nothing under it
   pub unlogged : map.get (global start).log number ≡ None
