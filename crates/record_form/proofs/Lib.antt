@@ -1,0 +1,5 @@
+pub mod Widths
+pub mod Readers
+pub mod Walks
+pub mod Whole
+pub mod Loops

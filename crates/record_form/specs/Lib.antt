@@ -1,0 +1,4 @@
+pub mod Layout
+pub mod OrderBytes
+pub mod Reading
+pub mod Fields
