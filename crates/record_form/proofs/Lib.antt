@@ -1,5 +1,7 @@
-pub mod Widths
+pub mod LocationTexts
+pub mod Loops
+pub mod NameTexts
 pub mod Readers
 pub mod Walks
 pub mod Whole
-pub mod Loops
+pub mod Widths

@@ -12,6 +12,12 @@ Walks next zero s (b ∷ bs) = ⊥
 Walks next (suc m) s [] = ⊥
 Walks {S} next (suc m) s (b ∷ bs) = (t : S) × (next m s b ≡ Some t) × Walks next m t bs
 
+pub walk_length : {S : Type 0} (next : ℕ → S → ℕ → Option S) (m : ℕ) (s : S) (text : List ℕ) → Walks next m s text → length text ≡ m
+walk_length next zero s [] w = refl
+walk_length next zero s (b ∷ bs) w = absurd w
+walk_length next (suc m) s [] w = absurd w
+walk_length next (suc m) s (b ∷ bs) w = ap (λ (k : ℕ). suc k) (walk_length next m w.0 bs w.2)
+
 -- from each state that can be reached there is a way on
 pub record IsLive {S : Type 0} (next : ℕ → S → ℕ → Option S) (Live : ℕ → S → Type 0) : Type 0 where
   pub way : (m : ℕ) (s : S) → Live (suc m) s → (b : ℕ) × (t : S) × (next m s b ≡ Some t)

@@ -4,6 +4,8 @@ use Rattle.std.specs.Int.{Width, w32, w64, w128, byte_len, from_be_bytes, to_be_
 use Rattle.std.proofs.lemmas.Bool.{cases_lt, le-ltb, lt-ltb}
 use Rattle.std.proofs.lemmas.List.{take_at, drop_at, take-append-drop, length-append, length-take, length-replicate, get_or-drop, get_or-take, get_or_past, append-nil}
 use Rattle.std.proofs.lemmas.Nat.{be_bytes_4, be_bytes_8, from_be_bytes-to_be_bytes_4, from_be_bytes-to_be_bytes_8}
+use Rattle.std.specs.Prelude.{IsTrue}
+use Rattle.cell_world.specs.Texts.{are_bytes}
 use Rattle.record_form.specs.Reading.{number_at, raw_at}
 use Rattle.record_form.proofs.Readers.{IsBytes, IsReader, Stops, err_of, ok_is, not_both, not_cons}
 
@@ -95,3 +97,60 @@ number_stops w limit wide bytes n fits e =
 pub number_reader : (w : Width) (limit : ℕ) → 0 < limit → IsWide w limit → IsReader (number_at w) (to_be_bytes w) (λ n. n < limit)
 number_reader w limit some wide = record { takes = number_takes w limit wide; again = number_again w limit wide; stops = number_stops w limit wide; one = (0, some) }
 
+
+IsBytes-small : (bytes : List ℕ) → IsBytes bytes → IsTrue (are_bytes bytes)
+IsBytes-small [] h = refl
+IsBytes-small (b ∷ bs) h = rw (lt-ltb b 256 (h 0), IsBytes-small bs (λ i. h (suc i))) refl
+
+-- ---- bytes, whichever they are
+
+-- so many bytes
+abbrev pub HasLength : ℕ → List ℕ → Type 0
+HasLength n text = (length text ≡ n) × IsTrue (are_bytes text)
+
+raw_long : (n : ℕ) (bytes : List ℕ) → n ≤ length bytes → raw_at n bytes ≡ Ok (take n bytes, drop n bytes)
+raw_long n bytes le = rw (le-ltb (length bytes) n le) refl
+
+raw_short : (n : ℕ) (bytes : List ℕ) → length bytes < n → raw_at n bytes ≡ Err 0
+raw_short n bytes lt = rw (lt-ltb (length bytes) n lt) refl
+
+raw_takes : (n : ℕ) (bytes : List ℕ) (x : List ℕ × List ℕ) → IsBytes bytes → raw_at n bytes ≡ Ok x → (bytes ≡ x.0 ++ x.1) × HasLength n x.0
+raw_takes n bytes x fits e =
+    elim (cases_lt (length bytes) n) [
+      | inl short ↦ absurd (not_both (raw_at n bytes) x 0 e (raw_short n bytes short))
+      | inr long ↦ subst (λ (y : List ℕ × List ℕ). (bytes ≡ y.0 ++ y.1) × HasLength n y.0)
+      (ok_is (raw_at n bytes) (take n bytes, drop n bytes) x (raw_long n bytes long) e)
+      (sym (take-append-drop n bytes), (omega (arith, length-take n bytes), IsBytes-small (take n bytes) (IsBytes-take n bytes fits)))
+    ]
+
+raw_again : (n : ℕ) (text rest : List ℕ) → HasLength n text → raw_at n (text ++ rest) ≡ Ok (text, rest)
+raw_again n text rest h =
+    let len = h.0 in
+    raw_long n (text ++ rest) (omega (arith, length-append text rest, len)) ∙ rw (take_at text rest n len, drop_at text rest n len) refl
+
+raw_stops : (n : ℕ) (bytes : List ℕ) (k : ℕ) → IsBytes bytes → raw_at n bytes ≡ Err k → Stops (λ (t : List ℕ). t) (HasLength n) bytes k
+raw_stops n bytes k fits e =
+    elim (cases_lt (length bytes) n) [
+      | inl short ↦
+          let zeros = replicate (n - length bytes) 0 in
+          record {
+            front = bytes;
+            left = [];
+            parts = sym (append-nil bytes);
+            count = ap err_of (sym (raw_short n bytes short) ∙ e);
+            value = bytes ++ zeros;
+            fits = (omega (arith, length-append bytes zeros, length-replicate {A = ℕ} (n - length bytes) 0), IsBytes-small (bytes ++ zeros) (IsBytes-padded bytes (n - length bytes) fits));
+            more = zeros;
+            goes_on = refl;
+            no_more = λ c rest l a more after h q. not_cons c rest l;
+          }
+      | inr long ↦ absurd (not_both (raw_at n bytes) (take n bytes, drop n bytes) k (raw_long n bytes long) e)
+    ]
+
+pub raw_reader : (n : ℕ) → IsReader (raw_at n) (λ (t : List ℕ). t) (HasLength n)
+raw_reader n = record {
+  takes = raw_takes n;
+  again = λ a rest h. raw_again n a rest h;
+  stops = raw_stops n;
+  one = (replicate n 0, (length-replicate {A = ℕ} n 0, IsBytes-small (replicate n 0) (IsBytes-padded [] n (λ i. omega arith))));
+}
