@@ -1,7 +1,10 @@
+pub mod ChoiceTexts
 pub mod LocationTexts
 pub mod Loops
 pub mod NameTexts
 pub mod Readers
+pub mod Sixteen
+pub mod SpanTexts
 pub mod Walks
 pub mod Whole
 pub mod Widths

@@ -7,6 +7,7 @@ use Rattle.std.proofs.lemmas.Nat.{be_bytes_4, be_bytes_8, from_be_bytes-to_be_by
 use Rattle.std.specs.Prelude.{IsTrue}
 use Rattle.cell_world.specs.Texts.{are_bytes}
 use Rattle.record_form.specs.Reading.{number_at, raw_at}
+use Rattle.record_form.proofs.Sixteen.{again_16, back_16, below_16}
 use Rattle.record_form.proofs.Readers.{IsBytes, IsReader, Stops, err_of, ok_is, not_both, not_cons}
 
 -- ---- numbers
@@ -48,6 +49,14 @@ wide64 = record {
   back = λ bytes len fits. be_bytes_8 bytes _ len fits refl;
   again = λ n lt. from_be_bytes-to_be_bytes_8 n lt;
   below = λ bytes fits. omega (arith, fits 0, fits 1, fits 2, fits 3, fits 4, fits 5, fits 6, fits 7);
+}
+
+pub wide128 : IsWide w128 (2 ^ 128)
+wide128 = record {
+  len = λ n. refl;
+  back = back_16;
+  again = again_16;
+  below = below_16;
 }
 
 number_long : (w : Width) (bytes : List ℕ) → byte_len w ≤ length bytes → number_at w bytes ≡ Ok (from_be_bytes w (take (byte_len w) bytes), drop (byte_len w) bytes)
@@ -94,9 +103,18 @@ number_stops w limit wide bytes n fits e =
       | inr long ↦ absurd (not_both (number_at w bytes) (from_be_bytes w (take (byte_len w) bytes), drop (byte_len w) bytes) n (number_long w bytes long) e)
     ]
 
-pub number_reader : (w : Width) (limit : ℕ) → 0 < limit → IsWide w limit → IsReader (number_at w) (to_be_bytes w) (λ n. n < limit)
+number_reader : (w : Width) (limit : ℕ) → 0 < limit → IsWide w limit → IsReader (number_at w) (to_be_bytes w) (λ n. n < limit)
 number_reader w limit some wide = record { takes = number_takes w limit wide; again = number_again w limit wide; stops = number_stops w limit wide; one = (0, some) }
 
+
+pub number_4_reader : IsReader (number_at w32) (to_be_bytes w32) (λ n. n < 2 ^ 32)
+number_4_reader = number_reader w32 (2 ^ 32) (omega arith) wide32
+
+pub number_8_reader : IsReader (number_at w64) (to_be_bytes w64) (λ n. n < 2 ^ 64)
+number_8_reader = number_reader w64 (2 ^ 64) (omega arith) wide64
+
+pub number_16_reader : IsReader (number_at w128) (to_be_bytes w128) (λ n. n < 2 ^ 128)
+number_16_reader = number_reader w128 (2 ^ 128) (omega arith) wide128
 
 IsBytes-small : (bytes : List ℕ) → IsBytes bytes → IsTrue (are_bytes bytes)
 IsBytes-small [] h = refl
