@@ -2,3 +2,4 @@ pub mod Layout
 pub mod OrderBytes
 pub mod Reading
 pub mod Fields
+pub mod Kinds
