@@ -1,8 +1,11 @@
 pub mod ChoiceTexts
+pub mod JobTexts
 pub mod LocationTexts
 pub mod Loops
 pub mod NameTexts
+pub mod PieceTexts
 pub mod Readers
+pub mod RowTexts
 pub mod Sixteen
 pub mod SpanTexts
 pub mod Walks
