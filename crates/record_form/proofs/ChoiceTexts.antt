@@ -23,10 +23,10 @@ use Rattle.record_form.proofs.NameTexts.{bounds}
 use Rattle.record_form.proofs.SpanTexts.{past}
 
 -- a bound that a byte is below
-before : {P : Type 0} (first last b : ℕ) → is_from first last b ≡ true → b < first → P
+pub before : {P : Type 0} (first last b : ℕ) → is_from first last b ≡ true → b < first → P
 before first last b h lt = let low = (bounds first last b h).0 in absurd (omega arith)
 
-beyond : {P : Type 0} (first last b : ℕ) → is_from first last b ≡ true → last < b → P
+pub beyond : {P : Type 0} (first last b : ℕ) → is_from first last b ≡ true → last < b → P
 beyond first last b h lt = let high = (bounds first last b h).1 in absurd (omega arith)
 
 -- ---- statuses

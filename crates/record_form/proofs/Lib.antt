@@ -1,5 +1,8 @@
+pub mod CellTexts
 pub mod ChoiceTexts
 pub mod JobTexts
+pub mod KeyOrders
+pub mod Lengths
 pub mod LocationTexts
 pub mod Loops
 pub mod NameTexts

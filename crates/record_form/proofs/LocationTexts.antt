@@ -227,14 +227,14 @@ part_from (c ∷ cs) h =
     (and_from (is_letter c || is_digit c) (fits_from 1 cs) p.0 (later_all 1 cs (omega arith) ∙ q.1), omega arith, omega arith)
 
 -- the two parts of a location
-record IsSplit (text : List ℕ) : Type 0 where
-  server : List ℕ
-  database : List ℕ
-  parts : text ≡ server ++ 47 ∷ database
-  is_server : is_part server ≡ true
-  is_database : is_part database ≡ true
+pub record IsSplit (text : List ℕ) : Type 0 where
+  pub server : List ℕ
+  pub database : List ℕ
+  pub parts : text ≡ server ++ 47 ∷ database
+  pub is_server : is_part server ≡ true
+  pub is_database : is_part database ≡ true
 
-split : (text : List ℕ) → IsTrue (is_location text) → IsSplit text
+pub split : (text : List ℕ) → IsTrue (is_location text) → IsSplit text
 split text h =
     let at = position_or_len is_slash text in
     let p = and_parts (is_part (take at text)) (is_part (drop (at + 1) text)) h in

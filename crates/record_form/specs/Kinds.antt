@@ -160,8 +160,8 @@ fields_at kind =
     else if kind == 6 then made cell.Job job_at
     else if kind == 7 then counter_cell_at
     else if kind == 8 then site_state_cell_at
-    else if kind == 9 then made cell.Local local_at
-    else row_cell_at
+    else if kind == 10 then row_cell_at
+    else made cell.Local local_at
 
 -- the version byte, the kind byte and the fields
 abbrev pub cell_of : ℕ × Cell → Cell
