@@ -1,9 +1,12 @@
 -- All of the bytes are read.
-use Rattle.std.proofs.Common.{◌≡◌, ℕ, ◌+◌, ◌-◌, ◌<◌, ◌≤◌, true, false, cond, eqb, List, [], ◌∷◌, ◌++◌, length, take, drop, Result, Ok, Err, refl, sym, ap, subst, ◌∙◌, append_assoc, arith, inl, inr}
+use Rattle.std.proofs.Common.{◌≡◌, ℕ, ◌+◌, ◌-◌, ◌<◌, ◌≤◌, true, false, cond, eqb, List, [], ◌∷◌, ◌++◌, length, take, drop, true≢false, Result, Ok, Err, refl, sym, ap, subst, ◌∙◌, append_assoc, arith, inl, inr}
+use Rattle.std.specs.Prelude.{IsOk}
 use Rattle.std.proofs.lemmas.Bool.{cases_Bool, eqb-true}
 use Rattle.std.proofs.lemmas.List.{take_at, length-append, append-nil, nil_from_length}
 use Rattle.text_scan.specs.Places.{BeginsOne, Leaves}
-use Rattle.record_form.specs.Reading.{◌>>=◌, Read, whole}
+use Rattle.record_form.specs.Reading.{◌>>=◌, Read, whole, GivesAll}
+use Rattle.record_form.specs.declared.stops.Stop.{Stop}
+use Rattle.record_form.specs.declared.stops.Stop.TheVariants as stop
 use Rattle.record_form.proofs.Readers.{IsBytes, IsReader, bind_ok, bind_err, err_of, ok_is, not_both, not_cons}
 
 -- the bytes spell a value
@@ -103,3 +106,15 @@ pub one_reading : {A : Type 0} (r : List ℕ → Read A) (text : A → List ℕ)
 one_reading {A} r text Fits reader a b x y fa fb e =
     let same = ok_is (r (text b ++ y)) (a, x) (b, y) (ap r (sym e) ∙ reader.again a x fa) (reader.again b y fb) in
     (ap (λ (p : A × List ℕ). p.0) same, ap (λ (p : A × List ℕ). p.1) same)
+
+-- what was read
+pub ok_value : {A : Type 0} (r : Result A ℕ) → IsOk r → (a : A) × (r ≡ Ok a)
+ok_value (Ok a) h = (a, refl)
+ok_value (Err n) h = absurd (true≢false (sym h))
+
+-- what the program's stop says of the reading
+pub left_of : {A : Type 0} (read : Result A ℕ) (s : Stop) (n : ℕ) → s ≡ stop.Left n → GivesAll read (Err s) → read ≡ Err n
+left_of read s n e h = subst (λ (t : Stop). GivesAll read (Err t)) e h
+
+pub memory_of : {A : Type 0} (read : Result A ℕ) (s : Stop) → s ≡ stop.Memory → GivesAll read (Err s) → IsOk read
+memory_of read s e h = subst (λ (t : Stop). GivesAll read (Err t)) e h

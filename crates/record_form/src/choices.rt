@@ -56,7 +56,8 @@ pub(crate) fn away(input: &mut &[u8]) -> Result<Away, Stop>
 pub(crate) fn token(input: &mut &[u8]) -> Result<Option<Token>, Stop>
     ensures { Gives token_at input.old.now input.new.now result }
 {
-    match byte(input, 0, 1)? {
+    let has_token = byte(input, 0, 1)?;
+    match has_token {
         0 => Ok(None),
         _ => Ok(Some(Token(number_16(input)?))),
     }
