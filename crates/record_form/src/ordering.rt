@@ -6,7 +6,7 @@ ghost use Rattle.record_form.specs.OrderBytes.{ended, escaped, ordered};
 
 use crate::parts::{put_4, put_8, put_byte};
 use cell_world::cells::{CellKey, RowName};
-use cell_world::items::Memory;
+use cell_world::memory::Memory;
 use cell_world::names::Name;
 use cell_world::norm_keys::NormKey;
 use std::alloc::{AllocError, Global};

@@ -11,7 +11,8 @@ use crate::parts::{
     put_location, put_mark, put_name, put_phase, put_span, put_token, status_byte,
 };
 use cell_world::cells::{Away, Cell, Counters, KeyType, LocalRow, MapKind, RowName};
-use cell_world::items::{Memory, RowBytes};
+use cell_world::items::RowBytes;
+use cell_world::memory::Memory;
 use cell_world::locations::Location;
 use cell_world::names::Name;
 use cell_world::operations::{Extra, JobRow, Op, Piece, Pieces};
