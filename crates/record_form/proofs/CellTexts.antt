@@ -2,7 +2,7 @@
 use Rattle.std.proofs.Common.{◌≡◌, ℕ, zero, suc, ◌+◌, ◌^◌, ◌<◌, ◌≤◌, true, List, [], ◌∷◌, ◌++◌, refl, sym, ap, ◌∙◌, arith}
 use Rattle.std.specs.Prelude.{IsTrue}
 use Rattle.cell_world.specs.Texts.{Text, is_name, is_location, is_row_value}
-use Rattle.cell_world.specs.Finding.{kind_number}
+use Rattle.cell_world.specs.Orders.{kind_number}
 use Rattle.cell_world.specs.Stores.{own_key}
 use Rattle.cell_world.specs.Spelled.{IsCell, IsJob, IsLocalRow, IsRowName}
 use Rattle.cell_world.specs.declared.cells.KeyType.{KeyType}

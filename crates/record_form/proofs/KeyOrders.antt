@@ -11,7 +11,7 @@ use Rattle.std.proofs.lemmas.List.{append-nil}
 use Rattle.std.proofs.Math.Nat.{mul-le-mul_left, pow-suc}
 use Rattle.cell_world.specs.Texts.{Text, is_letter, is_digit, is_name_byte, is_name, is_part_byte, is_part, is_location}
 use Rattle.cell_world.specs.ByteOrder.{byte_cmp}
-use Rattle.cell_world.specs.Finding.{cell_cmp, kind_number}
+use Rattle.cell_world.specs.Orders.{cell_cmp, kind_number}
 use Rattle.cell_world.specs.Spelled.{IsTypedKey, IsRowName}
 use Rattle.cell_world.specs.declared.cells.CellKey.{CellKey}
 use Rattle.cell_world.specs.declared.cells.CellKey.TheVariants as at

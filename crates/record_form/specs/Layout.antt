@@ -3,7 +3,7 @@ use Rattle.std.specs.Prelude.{◌≡◌, ℕ, List, [], ◌∷◌, ◌++◌, len
 use Rattle.std.specs.List.{flat_map}
 use Rattle.std.specs.Int.{w16, w32, w64, w128, to_be_bytes}
 use Rattle.cell_world.specs.Texts.{Text}
-use Rattle.cell_world.specs.Finding.{kind_number}
+use Rattle.cell_world.specs.Orders.{kind_number}
 use Rattle.cell_world.specs.Stores.{own_key}
 use Rattle.cell_world.specs.Spelled.{IsCell, listed}
 use Rattle.cell_world.specs.declared.spans.High.{High}

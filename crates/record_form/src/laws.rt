@@ -2,7 +2,7 @@
 ghost use Rattle.std.specs.Prelude.{◌≡◌, ◌≤◌, ◌++◌, ℕ, List, length};
 ghost use Rattle.text_scan.specs.Places.{Leaves};
 ghost use Rattle.cell_world.specs.ByteOrder.{byte_cmp};
-ghost use Rattle.cell_world.specs.Finding.{cell_cmp, kind_number};
+ghost use Rattle.cell_world.specs.Orders.{cell_cmp, kind_number};
 ghost use Rattle.cell_world.specs.Spelled.{IsCell, IsTypedKey};
 ghost use Rattle.cell_world.specs.declared.cells.Cell.{Cell};
 ghost use Rattle.cell_world.specs.declared.cells.CellKey.{CellKey};

@@ -1,7 +1,7 @@
 //! Writing cells.
 ghost use Rattle.std.specs.Prelude.{◌≡◌, ◌++◌, ◌∷◌, [], OnOk, IfOk};
 ghost use Rattle.std.specs.Int.{w32, to_be_bytes};
-ghost use Rattle.cell_world.specs.Finding.{kind_number};
+ghost use Rattle.cell_world.specs.Orders.{kind_number};
 ghost use Rattle.cell_world.specs.Stores.{own_key};
 ghost use Rattle.cell_world.specs.declared.cells.Cell.TheVariants as cell;
 ghost use Rattle.record_form.specs.Layout.{text_bytes, piece_bytes, pieces_bytes, phase_bytes, end_bytes, job_bytes, extra_bytes, op_bytes, counters_bytes, local_bytes, row_name_bytes, row_value_bytes, fields, spelling};
