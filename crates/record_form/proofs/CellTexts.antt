@@ -151,5 +151,6 @@ cell_reader =
   where
     one : (n : ℕ) → is_from 1 1 n ≡ true → 1 ≡ n
     one n h = let b = bounds 1 1 n h in let low = b.0 in let high = b.1 in omega arith
+
     version_is : (p : ℕ × Cell) → (is_from 1 1 p.0 ≡ true) × IsCell p.1 → spelling p.1 ≡ p.0 ∷ [] ++ kinded p.1
     version_is p h = ap (λ (n : ℕ). n ∷ kinded p.1) (one p.0 h.0)

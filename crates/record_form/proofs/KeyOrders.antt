@@ -102,7 +102,6 @@ bytes_8 n (suc (suc (suc (suc (suc (suc (suc (suc i)))))))) = omega arith
 worth_8 : (n : ℕ) → n < 2 ^ 64 → worth (to_be_bytes w64 n) ≡ n
 worth_8 n h = omega arith
 
-
 -- ---- names and locations have no zero
 
 abbrev HasNoZero : List ℕ → Type 0
@@ -164,7 +163,6 @@ ended_keeps [] [] x y ha hb = refl
 ended_keeps [] (b ∷ bs) x y ha hb = rw (less 0 b hb.0) refl
 ended_keeps (a ∷ xs) [] x y ha hb = rw (more a 0 ha.0) refl
 ended_keeps (a ∷ xs) (b ∷ bs) x y ha hb = rw (ended_keeps xs bs x y ha.1 hb.1) (sym (then_assoc (nat_cmp a b) (byte_cmp xs bs) (byte_cmp x y)))
-
 
 -- ---- numbers
 

@@ -43,7 +43,7 @@ most_cases high low h l =
     elim (cases_eq high 4) [
       | inl four ↦ let most_is : most high ≡ 0 = rw (eq-eqb high 4 four) refl in let down = (bounds 0 (most high) low l).1 in (omega arith, omega arith)
       | inr less ↦ let most_is : most high ≡ 255 = rw (ne_eqb high 4 less) refl in let down = (bounds 0 (most high) low l).1 in
-      let under : high ≤ 3 = four_less high up less in (omega arith, omega arith)
+          let under : high ≤ 3 = four_less high up less in (omega arith, omega arith)
     ]
   where
     four_less : (high : ℕ) → high ≤ 4 → (high ≡ 4 → ⊥) → high ≤ 3
@@ -67,10 +67,10 @@ unfolding value_length_at
 length_reader =
     made_reader (both_reader (byte_at (is_from 0 4)) (λ b. b ∷ []) (λ b. is_from 0 4 b ≡ true) (λ high. byte_at (is_from 0 (most high))) (λ high low. low ∷ []) (λ high low. is_from 0 (most high) low ≡ true)
     (byte_reader (is_from 0 4) 0 refl) (λ high h. byte_reader (is_from 0 (most high)) 0 (in_bounds 0 (most high) 0 (omega arith) (omega arith)))) (record {
-  same = λ p h. length_back p.0 p.1 (bounds 0 4 p.0 h.0).1 (most_cases p.0 p.1 h.0 h.1).1;
-  fits = λ p h. (most_cases p.0 p.1 h.0 h.1).0;
-  from = λ n h. ((n / 256, n % 256), (in_bounds 0 4 (n / 256) (omega arith) (omega arith), low_fits n h), omega arith);
-})
+      same = λ p h. length_back p.0 p.1 (bounds 0 4 p.0 h.0).1 (most_cases p.0 p.1 h.0 h.1).1;
+      fits = λ p h. (most_cases p.0 p.1 h.0 h.1).0;
+      from = λ n h. ((n / 256, n % 256), (in_bounds 0 4 (n / 256) (omega arith) (omega arith), low_fits n h), omega arith);
+    })
 
 value_form : (n : ℕ) (value : List ℕ) → n ≤ 1024 → HasLength n value → IsTrue (is_row_value value)
 value_form n value le h = let long = h.0 in rw (h.1, le-leb (length value) 1024 (omega arith)) refl

@@ -130,4 +130,3 @@ text_reader next Live live m s h = record {
   stops = λ bytes n fits e. text_stops next Live live m s h bytes n e;
   one = some_text next Live live m s h;
 }
-

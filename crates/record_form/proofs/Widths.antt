@@ -106,7 +106,6 @@ number_stops w limit wide bytes n fits e =
 number_reader : (w : Width) (limit : ℕ) → 0 < limit → IsWide w limit → IsReader (number_at w) (to_be_bytes w) (λ n. n < limit)
 number_reader w limit some wide = record { takes = number_takes w limit wide; again = number_again w limit wide; stops = number_stops w limit wide; one = (0, some) }
 
-
 pub number_4_reader : IsReader (number_at w32) (to_be_bytes w32) (λ n. n < 2 ^ 32)
 number_4_reader = number_reader w32 (2 ^ 32) (omega arith) wide32
 
@@ -137,8 +136,8 @@ raw_takes n bytes x fits e =
     elim (cases_lt (length bytes) n) [
       | inl short ↦ absurd (not_both (raw_at n bytes) x 0 e (raw_short n bytes short))
       | inr long ↦ subst (λ (y : List ℕ × List ℕ). (bytes ≡ y.0 ++ y.1) × HasLength n y.0)
-      (ok_is (raw_at n bytes) (take n bytes, drop n bytes) x (raw_long n bytes long) e)
-      (sym (take-append-drop n bytes), (omega (arith, length-take n bytes), IsBytes-small (take n bytes) (IsBytes-take n bytes fits)))
+          (ok_is (raw_at n bytes) (take n bytes, drop n bytes) x (raw_long n bytes long) e)
+          (sym (take-append-drop n bytes), (omega (arith, length-take n bytes), IsBytes-small (take n bytes) (IsBytes-take n bytes fits)))
     ]
 
 raw_again : (n : ℕ) (text rest : List ℕ) → HasLength n text → raw_at n (text ++ rest) ≡ Ok (text, rest)

@@ -15,7 +15,11 @@ pub(crate) trait Steps: Copy {
 }
 
 /// So many bytes, of a text of the grammar. Takes no memory.
-pub(crate) fn text<'a, S: Steps>(input: &mut &'a [u8], len: usize, start: S) -> Result<&'a [u8], Stop>
+pub(crate) fn text<'a, S: Steps>(
+    input: &mut &'a [u8],
+    len: usize,
+    start: S,
+) -> Result<&'a [u8], Stop>
     ensures { GivesSeen (λ x. x.now) (text_at S.next len start) input.old.now input.new.now result }
 {
     let bytes = *input;

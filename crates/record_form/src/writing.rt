@@ -12,8 +12,8 @@ use crate::parts::{
 };
 use cell_world::cells::{Away, Cell, Counters, KeyType, LocalRow, MapKind, RowName};
 use cell_world::items::RowBytes;
-use cell_world::memory::Memory;
 use cell_world::locations::Location;
+use cell_world::memory::Memory;
 use cell_world::names::Name;
 use cell_world::operations::{Extra, JobRow, Op, Piece, Pieces};
 use std::alloc::{AllocError, Global};
@@ -103,7 +103,12 @@ fn put_op(out: &mut Vec<u8>, op: &Op) -> Result<(), AllocError>
     put_exchange(out, op)
 }
 
-fn put_map(out: &mut Vec<u8>, name: &Name, kind: MapKind, key_type: KeyType) -> Result<(), AllocError>
+fn put_map(
+    out: &mut Vec<u8>,
+    name: &Name,
+    kind: MapKind,
+    key_type: KeyType,
+) -> Result<(), AllocError>
     ensures { OnOk result (out.new.items ≡ out.old.items ++ fields (cell.Map name.now kind key_type)) }
 {
     put_name(out, name)?;
