@@ -1,0 +1,16 @@
+pub mod CellTexts
+pub mod ChoiceTexts
+pub mod JobTexts
+pub mod KeyOrders
+pub mod Lengths
+pub mod LocationTexts
+pub mod Loops
+pub mod NameTexts
+pub mod PieceTexts
+pub mod Readers
+pub mod RowTexts
+pub mod Sixteen
+pub mod SpanTexts
+pub mod Walks
+pub mod Whole
+pub mod Widths
