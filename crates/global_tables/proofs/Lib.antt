@@ -1,0 +1,7 @@
+pub mod CellOrder
+pub mod Counting
+pub mod Entries
+pub mod GroupCells
+pub mod Least
+pub mod Neighbours
+pub mod Rising

@@ -1,0 +1,34 @@
+//! How many cells of a group stand.
+ghost use Rattle.std.specs.Prelude.{◌≡◌, IfOk, IsErrOf, nat_le};
+ghost use Rattle.cell_world.specs.Counts.{Rose};
+ghost use Rattle.cell_world.specs.Images.{global};
+ghost use Rattle.cell_world.specs.Outside.{IfContents};
+ghost use Rattle.global_tables.specs.Groups.{count_of};
+ghost use Rattle.global_tables.specs.Later.{IsLater};
+
+use crate::faults::{fault_of, StepFault};
+use crate::groups::Group;
+use cell_world::cells::Site;
+use cell_world::outside::World;
+use std::alloc::Global;
+
+/// The global store.
+const GLOBAL: Site = Site(0);
+
+/// Whether as many cells of a group stand as the limit, by one scan.
+pub fn is_full<W: World>(
+    alloc: Global,
+    world: &mut W,
+    group: &Group,
+    limit: u32,
+) -> Result<bool, StepFault>
+    ensures found { IfOk result (λ full. IfContents (W.outside world.old).told (λ image. full ≡ nat_le limit (count_of (global image) group.now))) }
+    ensures told { (W.outside world.new).told ≡ (W.outside world.old).told }
+    ensures later { IsLater (W.outside world.old) (W.outside world.new) }
+    ensures cause { IsErrOf result StepFault.Store → Rose ((W.outside world.old).faults_at 0) ((W.outside world.new).faults_at 0) }
+{
+    match world.scan(alloc, GLOBAL, &group.least(), limit) {
+        Ok(found) => Ok(group.count(&found) >= limit as usize),
+        Err(error) => Err(fault_of(error)),
+    }
+}
