@@ -1,5 +1,5 @@
 -- Cell order is a strict order, and a scan is in it.
-use Rattle.std.proofs.Common.{◌≡◌, inl, inr, ℕ, Bool, true, false, List, [], ◌∷◌, refl, sym, ap, ◌∙◌, subst}
+use Rattle.std.proofs.Common.{◌≡◌, inl, inr, ℕ, false, List, [], ◌∷◌, refl, sym, ap, ◌∙◌, subst}
 use Rattle.std.specs.Ordering.{is_lt, nat_cmp, ordering_then}
 use Rattle.std.specs.Cmp.{IsTotalOrder}
 use Rattle.std.specs.declared.cmp.Ordering.{Ordering}
@@ -9,13 +9,12 @@ use Rattle.cell_world.specs.Texts.{Text}
 use Rattle.cell_world.specs.ByteOrder.{byte_cmp}
 use Rattle.cell_world.specs.Lists.{IsOneOf}
 use Rattle.cell_world.specs.KeyOrder.{same_order}
-use Rattle.cell_world.specs.Orders.{pair_cmp, local_cmp}
+use Rattle.cell_world.specs.Orders.{pair_cmp}
 use Rattle.cell_world.specs.Stores.{own_key}
 use Rattle.cell_world.specs.Finding.{cell_cmp, Rises}
 use Rattle.cell_world.specs.contracts.cells.CellKeyOrd.TheImpl.Laws.{total-law}
 use Rattle.cell_world.specs.declared.cells.Cell.{Cell}
 use Rattle.cell_world.specs.declared.cells.CellKey.{CellKey}
-use Rattle.cell_world.specs.declared.cells.CellKey.TheVariants as at
 use Rattle.global_tables.proofs.Rising.{Rising}
 
 pub cell_total : IsTotalOrder cell_cmp

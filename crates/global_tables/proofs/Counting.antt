@@ -1,18 +1,16 @@
 -- One scan from the least key of a group finds its first cells, and so counts them up to a limit.
-use Rattle.std.proofs.Common.{◌≡◌, ◌⊎◌, inl, inr, ℕ, ◌≤◌, Bool, true, false, List, [], ◌∷◌, length, take, min, refl, sym, ap, ◌∙◌, subst, arith, nat_le}
-use Rattle.std.specs.Prelude.{IsTrue}
-use Rattle.std.specs.Ordering.{is_lt}
+use Rattle.std.proofs.Common.{◌≡◌, inl, inr, ℕ, true, List, length, take, min, sym, ap, ◌∙◌, subst, arith, nat_le}
 use Rattle.std.proofs.lemmas.List.{length-take}
 use Rattle.cell_world.specs.Lists.{IsOneOf}
-use Rattle.cell_world.specs.Images.{Image, Global, global, image_at, end_of_trail}
+use Rattle.cell_world.specs.Images.{Global, global, image_at, end_of_trail}
 use Rattle.cell_world.specs.Stores.{Store, IsStore, Stands, own_key}
-use Rattle.cell_world.specs.Finding.{cell_cmp, kind_number, IsScan, IsFromOn}
+use Rattle.cell_world.specs.Finding.{IsScan, IsFromOn}
 use Rattle.cell_world.specs.Outside.{Told, TellsNothing, TellsContents, TellsTrail, IfContents, TellsCells}
 use Rattle.cell_world.specs.declared.cells.Cell.{Cell}
 use Rattle.cell_world.specs.declared.cells.CellKey.{CellKey}
 use Rattle.global_tables.specs.declared.groups.Group.{Group}
 use Rattle.global_tables.specs.Groups.{least_of, is_in, inside, cells_of, count_of}
-use Rattle.global_tables.proofs.Rising.{Rising, front_is}
+use Rattle.global_tables.proofs.Rising.{front_is}
 use Rattle.global_tables.proofs.CellOrder.{Before, not_itself, before_trans, as_rising}
 use Rattle.global_tables.proofs.GroupCells.{rise, stand, there, counted}
 use Rattle.global_tables.proofs.Neighbours.{IsNear, kind_in, kind_least, from_least, in_before, in_inside, into_inside, rising_inside, short_inside, whole_inside}

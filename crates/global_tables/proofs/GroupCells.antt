@@ -1,29 +1,23 @@
 -- The cells of a group are those that stand, in cell order.
-use Rattle.std.proofs.Common.{◌≡◌, ◌⊎◌, inl, inr, ℕ, Bool, true, false, cond, ◌&&◌, List, [], ◌∷◌, map, length, Option, Some, None, IfSome, option_map, is_some, refl, sym, ap, ◌∙◌, subst, true≢false}
-use Rattle.std.specs.Prelude.{IsTrue, filter, ◌==◌}
+use Rattle.std.proofs.Common.{◌≡◌, ℕ, Bool, true, false, cond, length, Option, Some, None, IfSome, option_map, refl, sym, ap, ◌∙◌, subst}
 use Rattle.std.specs.FinMap as fin
 use Rattle.std.specs.FinMap.{FinMap, IsAntisymmetric}
 use Rattle.std.specs.Cmp.{IsTotalOrder}
 use Rattle.std.specs.FinSet as set
-use Rattle.std.specs.Ordering.{is_lt, nat_cmp, ordering_then}
+use Rattle.std.specs.Ordering.{nat_cmp}
 use Rattle.std.specs.declared.cmp.Ordering.{Ordering}
-use Rattle.std.specs.declared.cmp.Ordering.TheVariants.{Less, Equal, Greater}
-use Rattle.std.proofs.lemmas.Cmp.{nat_list_cmp_total, nat_cmp_total, tied_itself}
-use Rattle.std.proofs.lemmas.Bool.{and_parts, and_from}
+use Rattle.std.specs.declared.cmp.Ordering.TheVariants.{Less}
+use Rattle.std.proofs.lemmas.Cmp.{nat_list_cmp_total, nat_cmp_total}
 use Rattle.std.proofs.lemmas.List.{length-map}
 use Rattle.std.proofs.lemmas.Map.Lookups.{exact_unsigned}
 use Rattle.cell_world.specs.Texts.{Text}
 use Rattle.cell_world.specs.ByteOrder.{byte_cmp}
-use Rattle.cell_world.specs.Keys.{same, low_of}
+use Rattle.cell_world.specs.Keys.{same}
 use Rattle.cell_world.specs.Lists.{IsOneOf}
 use Rattle.cell_world.specs.Orders.{pair_cmp}
-use Rattle.cell_world.specs.Spelled.{IsTyped}
-use Rattle.cell_world.specs.Stores.{Store, IsStore, Stands, cell_at, own_key, piece_key, Shards}
-use Rattle.cell_world.specs.Finding.{cell_cmp, kind_number, map_of}
+use Rattle.cell_world.specs.Stores.{Store, IsStore, Stands, own_key, piece_key}
 use Rattle.cell_world.specs.declared.cells.Cell.{Cell}
 use Rattle.cell_world.specs.declared.cells.Cell.TheVariants as cell
-use Rattle.cell_world.specs.declared.cells.CellKey.{CellKey}
-use Rattle.cell_world.specs.declared.cells.CellKey.TheVariants as at
 use Rattle.cell_world.specs.declared.cells.MapKind.{MapKind}
 use Rattle.cell_world.specs.declared.cells.KeyType.{KeyType}
 use Rattle.cell_world.specs.declared.cells.Away.{Away}
@@ -31,14 +25,12 @@ use Rattle.cell_world.specs.declared.operations.Piece.{Piece}
 use Rattle.cell_world.specs.declared.operations.Op.{Op}
 use Rattle.cell_world.specs.declared.operations.JobRow.{JobRow}
 use Rattle.cell_world.proofs.OrderLaws.{pairs_total, exact_texts, exact_text_pairs}
-use Rattle.cell_world.proofs.SpanLaws.{same_is, same_self}
 use Rattle.global_tables.specs.declared.groups.Group.{Group}
 use Rattle.global_tables.specs.declared.groups.Group.TheVariants as group
-use Rattle.global_tables.specs.Groups.{kind_of, name_of, least_of, is_of, is_in, members, shards_in, tables_in, pieces_in, count_of, cells_of, least_location}
+use Rattle.global_tables.specs.Groups.{is_in, members, shards_in, tables_in, pieces_in, count_of, cells_of}
 use Rattle.global_tables.proofs.Rising.{Rising, rising_map_in, rising_filter, in_filter, from_filter, in_map, into_map}
 use Rattle.global_tables.proofs.Entries.{entry_stands, entry_there, entries_rise, members_rise, member_stands, member_there}
-use Rattle.global_tables.proofs.CellOrder.{Before, by_text, by_pair, by_number, not_less, never_less, is_not_lt}
-use Rattle.global_tables.proofs.Least.{name_least, location_least, number_least, empty_least}
+use Rattle.global_tables.proofs.CellOrder.{Before, by_text, by_pair, by_number}
 
 -- ---- values out of cells
 

@@ -1,20 +1,17 @@
 -- No cell of a group is below the key from which on it is listed.
-use Rattle.std.proofs.Common.{◌≡◌, ◌⊎◌, inl, inr, ℕ, zero, suc, ◌+◌, ◌≤◌, ◌<◌, Bool, true, false, cond, ◌&&◌, ◌||◌, not, List, [], ◌∷◌, length, take, drop, Option, Some, None, refl, sym, ap, ◌∙◌, subst, arith, true≢false, nat_le, nat_lt}
-use Rattle.std.specs.Prelude.{IsTrue, ◌==◌}
+use Rattle.std.proofs.Common.{◌≡◌, ◌⊎◌, inl, inr, ℕ, zero, suc, ◌+◌, ◌≤◌, ◌<◌, Bool, true, false, cond, ◌&&◌, ◌||◌, not, [], ◌∷◌, length, take, drop, refl, sym, ap, ◌∙◌, subst, arith, true≢false, nat_le, nat_lt}
+use Rattle.std.specs.Prelude.{◌==◌}
 use Rattle.std.specs.List.{list_all, before_first, after_first, position_or_len}
-use Rattle.std.specs.Cmp.Lexicographic.{slice_cmp}
-use Rattle.std.specs.Ordering.{is_lt, is_eq, nat_cmp, ordering_then, MatchOrdering}
+use Rattle.std.specs.Ordering.{is_lt, nat_cmp, ordering_then, MatchOrdering}
 use Rattle.std.specs.declared.cmp.Ordering.{Ordering}
 use Rattle.std.specs.declared.cmp.Ordering.TheVariants.{Less, Equal, Greater}
-use Rattle.std.proofs.lemmas.Cmp.{ranked, tied_itself, nat_list_cmp_total}
+use Rattle.std.proofs.lemmas.Cmp.{ranked}
 use Rattle.std.proofs.lemmas.Bool.{and_parts}
 use Rattle.std.proofs.lemmas.Bool.Decides.{leb_tells}
 use Rattle.cell_world.specs.Texts.{Text, is_name, is_letter, is_digit, is_name_byte, is_part, is_part_byte, is_slash, is_location}
 use Rattle.cell_world.specs.ByteOrder.{byte_cmp}
-use Rattle.cell_world.specs.Keys.{same}
-use Rattle.cell_world.proofs.SpanLaws.{same_is}
 use Rattle.global_tables.specs.Groups.{least_location}
-use Rattle.global_tables.proofs.CellOrder.{not_less, never_less, is_not_lt}
+use Rattle.global_tables.proofs.CellOrder.{not_less, never_less}
 
 -- ---- numbers and bytes
 

@@ -1,7 +1,7 @@
 -- The cells of a group stand together in cell order, from the least key of the group on.
-use Rattle.std.proofs.Common.{◌≡◌, ◌⊎◌, inl, inr, ℕ, ◌+◌, ◌≤◌, Bool, true, false, cond, ◌&&◌, List, [], ◌∷◌, length, Option, Some, None, refl, sym, ap, ◌∙◌, subst, true≢false, arith}
-use Rattle.std.specs.Prelude.{IsTrue, ◌==◌}
-use Rattle.std.specs.Ordering.{is_lt, is_eq, nat_cmp, ordering_then}
+use Rattle.std.proofs.Common.{◌≡◌, inl, inr, ℕ, ◌+◌, ◌≤◌, Bool, true, false, cond, List, [], ◌∷◌, length, refl, sym, ap, ◌∙◌, subst, true≢false, arith}
+use Rattle.std.specs.Prelude.{◌==◌}
+use Rattle.std.specs.Ordering.{is_lt, nat_cmp, ordering_then}
 use Rattle.std.specs.declared.cmp.Ordering.{Ordering}
 use Rattle.std.specs.declared.cmp.Ordering.TheVariants.{Less, Equal, Greater}
 use Rattle.std.proofs.lemmas.Cmp.{nat_list_cmp_total, tied_itself}
@@ -23,7 +23,7 @@ use Rattle.global_tables.specs.declared.groups.Group.{Group}
 use Rattle.global_tables.specs.declared.groups.Group.TheVariants as group
 use Rattle.global_tables.specs.Groups.{kind_of, name_of, least_of, is_of, is_in, inside, least_location}
 use Rattle.global_tables.proofs.Rising.{Rising}
-use Rattle.global_tables.proofs.CellOrder.{Before, not_less, never_less, is_not_lt}
+use Rattle.global_tables.proofs.CellOrder.{Before, not_less, never_less}
 use Rattle.global_tables.proofs.Least.{name_least, location_least, number_least, empty_least}
 
 -- ---- kinds

@@ -1,15 +1,12 @@
 -- Groups of cells that are listed and counted, and what a list of cells of a group has come to.
-use Rattle.std.specs.Prelude.{◌≡◌, ℕ, Bool, true, false, ◌&&◌, ◌==◌, List, [], ◌∷◌, map, length, filter, Option, Some, None, IsTrue, if◌then◌else◌}
+use Rattle.std.specs.Prelude.{ℕ, Bool, true, false, ◌&&◌, ◌==◌, List, [], ◌∷◌, map, length, filter, Option, Some, None, if◌then◌else◌}
 use Rattle.std.specs.FinMap as fin
 use Rattle.std.specs.FinSet as set
-use Rattle.std.specs.Ordering.{is_lt}
 use Rattle.std.specs.declared.cmp.Ordering.{Ordering}
-use Rattle.std.specs.declared.cmp.Ordering.TheVariants.{Less}
 use Rattle.cell_world.specs.Texts.{Text}
 use Rattle.cell_world.specs.Keys.{same}
-use Rattle.cell_world.specs.Lists.{IsOneOf}
-use Rattle.cell_world.specs.Stores.{Store, Stands, Shards, Tables, Mappings, own_key}
-use Rattle.cell_world.specs.Finding.{cell_cmp, kind_number, map_of}
+use Rattle.cell_world.specs.Stores.{Store, Shards, Tables, Mappings, own_key}
+use Rattle.cell_world.specs.Finding.{kind_number, map_of}
 use Rattle.cell_world.specs.declared.cells.Cell.{Cell}
 use Rattle.cell_world.specs.declared.cells.Cell.TheVariants as cell
 use Rattle.cell_world.specs.declared.cells.CellKey.{CellKey}

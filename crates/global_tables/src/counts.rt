@@ -6,7 +6,7 @@ ghost use Rattle.cell_world.specs.Outside.{IfContents};
 ghost use Rattle.global_tables.specs.Groups.{count_of};
 ghost use Rattle.global_tables.specs.Later.{IsLater};
 
-use crate::faults::{fault_of, StepFault};
+use crate::faults::{StepFault, fault_of};
 use crate::groups::Group;
 use cell_world::cells::Site;
 use cell_world::outside::World;
