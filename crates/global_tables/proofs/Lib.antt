@@ -4,4 +4,5 @@ pub mod Entries
 pub mod GroupCells
 pub mod Least
 pub mod Neighbours
+pub mod Owners
 pub mod Rising

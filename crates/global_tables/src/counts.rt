@@ -8,12 +8,9 @@ ghost use Rattle.global_tables.specs.Later.{IsLater};
 
 use crate::faults::{StepFault, fault_of};
 use crate::groups::Group;
-use cell_world::cells::Site;
+use crate::reads::GLOBAL;
 use cell_world::outside::World;
 use std::alloc::Global;
-
-/// The global store.
-const GLOBAL: Site = Site(0);
 
 /// Whether as many cells of a group stand as the limit, by one scan.
 pub fn is_full<W: World>(

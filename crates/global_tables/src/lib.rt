@@ -5,3 +5,6 @@ pub mod counts;
 pub mod faults;
 pub mod groups;
 mod keys;
+pub mod lookups;
+pub mod reads;
+pub mod rows;
