@@ -3,6 +3,8 @@ pub mod Counting
 pub mod Entries
 pub mod GroupCells
 pub mod Least
+pub mod ListingLaws
 pub mod Neighbours
 pub mod Owners
 pub mod Rising
+pub mod RowLaws

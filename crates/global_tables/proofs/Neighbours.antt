@@ -1,5 +1,6 @@
 -- The cells of a group stand together in cell order, from the least key of the group on.
 use Rattle.std.proofs.Common.{◌≡◌, inl, inr, ℕ, ◌+◌, ◌≤◌, Bool, true, false, cond, List, [], ◌∷◌, length, refl, sym, ap, ◌∙◌, subst, true≢false, arith}
+use Rattle.std.proofs.Common.{take}
 use Rattle.std.specs.Prelude.{◌==◌}
 use Rattle.std.specs.Ordering.{is_lt, nat_cmp, ordering_then}
 use Rattle.std.specs.declared.cmp.Ordering.{Ordering}
@@ -152,3 +153,12 @@ module _ (g : Group) where
   pub whole_inside : (cs : List Cell) → ((c : Cell) → IsOneOf cs c → is_in g (own_key c) ≡ true) → inside g cs ≡ cs
   whole_inside [] h = refl
   whole_inside (d ∷ ds) h = ap (λ b. cond b (d ∷ inside g ds) []) (h d (inl refl)) ∙ ap (λ cs. d ∷ cs) (whole_inside ds (λ c m. h c (inr m)))
+
+  -- they are a front of the list
+  pub front_inside : (cs : List Cell) → take (length (inside g cs)) cs ≡ inside g cs
+  front_inside [] = refl
+  front_inside (d ∷ ds) = by (is_in g (own_key d)) (front_inside ds)
+    where
+      by : (b : Bool) → take (length (inside g ds)) ds ≡ inside g ds → take (length (cond b (d ∷ inside g ds) [])) (d ∷ ds) ≡ cond b (d ∷ inside g ds) []
+      by true e = ap (λ cs. d ∷ cs) e
+      by false e = refl

@@ -1,5 +1,5 @@
 -- Groups of cells that are listed and counted, and what a list of cells of a group has come to.
-use Rattle.std.specs.Prelude.{ℕ, Bool, true, false, ◌&&◌, ◌==◌, List, [], ◌∷◌, map, length, filter, Option, Some, None, if◌then◌else◌}
+use Rattle.std.specs.Prelude.{ℕ, Bool, true, false, ◌&&◌, ◌==◌, List, [], ◌∷◌, map, length, filter, filter_map, Option, Some, None, if◌then◌else◌}
 use Rattle.std.specs.FinMap as fin
 use Rattle.std.specs.FinSet as set
 use Rattle.std.specs.declared.cmp.Ordering.{Ordering}
@@ -29,6 +29,10 @@ members {R = R} s = fin.keys (fin.from_entries {R = R} (with_nothing (set.items 
 
 abbrev pub shards_in : Shards → Text → List (Text × Text)
 shards_in shards name = filter (λ shard. same name shard.0) (members shards)
+
+-- the locations of its shards, in byte order
+abbrev pub locations_in : Shards → Text → List Text
+locations_in shards name = filter_map (λ shard. if same name shard.0 then Some shard.1 else None) (members shards)
 
 abbrev pub tables_in : Tables → Text → List (Text × Text)
 tables_in tables name = filter (λ table. same name table.0) (members tables)

@@ -1,3 +1,4 @@
 pub mod Groups
 pub mod Later
+pub mod Listing
 pub mod Reads

@@ -1,5 +1,5 @@
 //! Groups of cells that stand together in cell order.
-ghost use Rattle.std.specs.Prelude.{◌≡◌, length};
+ghost use Rattle.std.specs.Prelude.{◌≡◌, ◌≤◌, length};
 ghost use Rattle.global_tables.specs.Groups.{kind_of, name_of, least_of, is_in, inside};
 
 use crate::keys::{key_of, kind_number, map_of};
@@ -100,7 +100,8 @@ impl Group {
 
     /// How many of these cells are of the group, up to the first that isn't.
     pub fn count(&self, cells: &[Cell]) -> usize
-        ensures { result ≡ length (inside self.now cells.now) }
+        ensures count { result ≡ length (inside self.now cells.now) }
+        ensures within { result ≤ length cells.now }
     {
         for (count, cell) in cells.iter().enumerate() {
             if !self.holds(&key_of(cell)) {

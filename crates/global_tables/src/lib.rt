@@ -5,6 +5,8 @@ pub mod counts;
 pub mod faults;
 pub mod groups;
 mod keys;
+pub mod lists;
 pub mod lookups;
+mod pieces;
 pub mod reads;
 pub mod rows;
