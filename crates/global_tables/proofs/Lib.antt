@@ -2,6 +2,7 @@ pub mod CellOrder
 pub mod Counting
 pub mod Entries
 pub mod GroupCells
+pub mod KnownLaws
 pub mod Least
 pub mod ListingLaws
 pub mod Neighbours

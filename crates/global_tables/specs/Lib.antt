@@ -1,4 +1,5 @@
 pub mod Groups
+pub mod Known
 pub mod Later
 pub mod Listing
 pub mod Reads

@@ -5,6 +5,7 @@ pub mod counts;
 pub mod faults;
 pub mod groups;
 mod keys;
+pub mod known;
 pub mod lists;
 pub mod lookups;
 mod pieces;
