@@ -45,7 +45,7 @@ has_back false c h = cc
 
 -- the entries of a map whose values stand under their own keys
 module _ {K X : Type 0} {R : K → K → Ordering} (o : IsTotalOrder R) (key : X → K) (m : FinMap R X) (keyed : (k : K) → IfSome (fin.get m k) (λ v. key v ≡ k)) where
-  own : (k : K) (v : X) → fin.get m k ≡ Some v → key v ≡ k
+  pub own : (k : K) (v : X) → fin.get m k ≡ Some v → key v ≡ k
   own k v h = subst (λ o. IfSome o (λ v. key v ≡ k)) h (keyed k)
 
   values_rise : Rising (λ u v. R (key u) (key v) ≡ Less) (fin.values m)
@@ -53,13 +53,13 @@ module _ {K X : Type 0} {R : K → K → Ordering} (o : IsTotalOrder R) (key : X
       (λ a b p q h. (λ i. R (own a.0 a.1 (entry_stands R o m a p) i) (own b.0 b.1 (entry_stands R o m b q) i)) ∙ h)
       (entries_rise R o m)
 
-  value_stands : (v : X) → IsOneOf (fin.values m) v → fin.get m (key v) ≡ Some v
+  pub value_stands : (v : X) → IsOneOf (fin.values m) v → fin.get m (key v) ≡ Some v
   value_stands v h =
       let e = in_map (λ (e : K × X). e.1) (fin.entries m) v h in
       let there : fin.get m e.0.0 ≡ Some e.0.1 = entry_stands R o m e.0 e.1 in
       subst (λ w. fin.get m (key w) ≡ Some w) e.2 (ap (fin.get m) (own e.0.0 e.0.1 there) ∙ there)
 
-  value_there : IsAntisymmetric R → (k : K) (v : X) → fin.get m k ≡ Some v → IsOneOf (fin.values m) v
+  pub value_there : IsAntisymmetric R → (k : K) (v : X) → fin.get m k ≡ Some v → IsOneOf (fin.values m) v
   value_there exact k v h = into_map (λ (e : K × X). e.1) (fin.entries m) (k, v) (entry_there R o exact m k v h)
 
 -- ---- each kind, in cell order and as it stands

@@ -1,0 +1,4 @@
+pub mod BelowRows
+pub mod KeysBelow
+pub mod Searching
+pub mod StepTells
