@@ -38,7 +38,7 @@ low_form row typed = by row.span typed.span
     by (Range low high) h = h.0
     by (Point at) h = h
 
-not_gt_is : (r : Ordering) → is_gt r ≡ false → not (is_gt r) ≡ true
+pub not_gt_is : (r : Ordering) → is_gt r ≡ false → not (is_gt r) ≡ true
 not_gt_is r e = ap not e
 
 up_less : (r : Ordering) → r ≡ Less → not (is_gt r) ≡ true
@@ -47,7 +47,7 @@ up_less r e = ap (λ r. not (is_gt r)) e
 flipped_less : (a b : Text) → byte_cmp a b ≡ Less → byte_cmp b a ≡ Greater
 flipped_less a b h = nat_list_cmp_total.antisymm b a ∙ ap ordering_reverse h
 
-number_up : (m n : ℕ) → m ≤ n → is_gt (nat_cmp m n) ≡ false
+pub number_up : (m n : ℕ) → m ≤ n → is_gt (nat_cmp m n) ≡ false
 number_up m n le = by (nat_cmp m n) refl
   where
     by : (r : Ordering) → nat_cmp m n ≡ r → is_gt (nat_cmp m n) ≡ false
@@ -55,7 +55,7 @@ number_up m n le = by (nat_cmp m n) refl
     by Equal e = ap is_gt e
     by Greater e = absurd (not_greater_number m n le e)
 
-not_gt_no : (r : Ordering) → not (is_gt r) ≡ true → r ≡ Greater → ⊥
+pub not_gt_no : (r : Ordering) → not (is_gt r) ≡ true → r ≡ Greater → ⊥
 not_gt_no Less h e = cc
 not_gt_no Equal h e = cc
 not_gt_no Greater h e = true≢false (sym h)

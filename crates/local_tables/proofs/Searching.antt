@@ -61,7 +61,7 @@ module _ {A : Type 0} (f g : A → Bool) where
   longer x xs ys false false h le = le
 
   -- no more pass the narrower test
-  fewer : (xs : List A) → ((x : A) → IsOneOf xs x → f x ≡ true → g x ≡ true) → length (filter f xs) ≤ length (filter g xs)
+  pub fewer : (xs : List A) → ((x : A) → IsOneOf xs x → f x ≡ true → g x ≡ true) → length (filter f xs) ≤ length (filter g xs)
   fewer [] h = omega arith
   fewer (x ∷ xs) h = longer x (filter f xs) (filter g xs) (f x) (g x) (h x (inl refl)) (fewer xs (λ y m. h y (inr m)))
 
@@ -101,7 +101,7 @@ module _ (s : Store) (store : IsStore s) (log : Log) (name key : Text) where
       back None e = cc
       back (Some r) e = let is : r ≡ q = cc in ap Some is
 
-  local_typed : (q : LocalRow) → HasLocal s.locals q → IsLocalRow q
+  pub local_typed : (q : LocalRow) → HasLocal s.locals q → IsLocalRow q
   local_typed q h = (store.cells (cell.Local q) (local_stands q h)).typed
 
   value_has : (q : LocalRow) → IsOneOf (fin.values s.locals) q → HasLocal s.locals q

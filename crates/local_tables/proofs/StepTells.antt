@@ -23,13 +23,13 @@ told_both TellsNothing cells P Q R makes p q = tt
 told_both (TellsContents image) cells P Q R makes p q = makes image cells p q
 told_both (TellsTrail trail) cells P Q R makes p q = makes (image_at trail (end_of_trail trail)) (cells (end_of_trail trail)) p q
 
-nothing_more : (told : Told) → IfContents told (λ image. Unit {0})
+pub nothing_more : (told : Told) → IfContents told (λ image. Unit {0})
 nothing_more TellsNothing = tt
 nothing_more (TellsContents image) = tt
 nothing_more (TellsTrail trail) = tt
 
 -- a site's store holds nothing but cells
-stored : (place : Option Place) (image : Image) → IsImage image → IsSome place → IsStore (unwrap_or (option_map image.at place) empty_store)
+pub stored : (place : Option Place) (image : Image) → IsImage image → IsSome place → IsStore (unwrap_or (option_map image.at place) empty_store)
 stored None image cells some = absurd (cc some)
 stored (Some place) image cells some = cells place
 

@@ -3,3 +3,5 @@
 
 mod below;
 mod judging;
+pub mod laws;
+pub mod resolving;
