@@ -11,7 +11,8 @@ use Rattle.cell_world.specs.Lists.{IsOneOf}
 use Rattle.cell_world.specs.KeyOrder.{same_order}
 use Rattle.cell_world.specs.Orders.{pair_cmp}
 use Rattle.cell_world.specs.Stores.{own_key}
-use Rattle.cell_world.specs.Finding.{cell_cmp, Rises}
+use Rattle.cell_world.specs.Finding.{Rises}
+use Rattle.cell_world.specs.Orders.{cell_cmp}
 use Rattle.cell_world.specs.contracts.cells.CellKeyOrd.TheImpl.Laws.{total-law}
 use Rattle.cell_world.specs.declared.cells.Cell.{Cell}
 use Rattle.cell_world.specs.declared.cells.CellKey.{CellKey}

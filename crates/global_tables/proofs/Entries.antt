@@ -12,7 +12,7 @@ use Rattle.std.specs.FinSet as set
 use Rattle.std.proofs.lemmas.Cmp.{tied_itself}
 use Rattle.cell_world.specs.Lists.{IsOneOf}
 use Rattle.cell_world.proofs.OrderLaws.{tied_is}
-use Rattle.global_tables.specs.Groups.{with_nothing, members}
+use Rattle.cell_world.specs.Members.{with_nothing, members}
 use Rattle.global_tables.proofs.Rising.{Rising, rising_map, in_map, into_map}
 
 both_of : (a b : Bool) → T (a && b) → T a × T b

@@ -27,7 +27,8 @@ use Rattle.cell_world.specs.declared.operations.JobRow.{JobRow}
 use Rattle.cell_world.proofs.OrderLaws.{pairs_total, exact_texts, exact_text_pairs}
 use Rattle.global_tables.specs.declared.groups.Group.{Group}
 use Rattle.global_tables.specs.declared.groups.Group.TheVariants as group
-use Rattle.global_tables.specs.Groups.{is_in, members, shards_in, tables_in, pieces_in, count_of, cells_of}
+use Rattle.cell_world.specs.Members.{members}
+use Rattle.global_tables.specs.Groups.{is_in, shards_in, tables_in, pieces_in, count_of, cells_of}
 use Rattle.global_tables.proofs.Rising.{Rising, rising_map_in, rising_filter, in_filter, from_filter, in_map, into_map}
 use Rattle.global_tables.proofs.Entries.{entry_stands, entry_there, entries_rise, members_rise, member_stands, member_there}
 use Rattle.global_tables.proofs.CellOrder.{Before, by_text, by_pair, by_number}

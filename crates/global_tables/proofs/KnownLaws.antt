@@ -17,7 +17,8 @@ use Rattle.global_tables.specs.declared.rows.MapRow.{MapRow}
 use Rattle.global_tables.specs.declared.rows.ShardRow.{ShardRow}
 use Rattle.global_tables.specs.declared.rows.TableRow.{TableRow}
 use Rattle.global_tables.specs.declared.rows.AwayRow.{AwayRow}
-use Rattle.global_tables.specs.Groups.{members, cells_of}
+use Rattle.cell_world.specs.Members.{members}
+use Rattle.global_tables.specs.Groups.{cells_of}
 use Rattle.global_tables.specs.Known.{Known, known_of, map_row, shard_row, table_row, away_row}
 use Rattle.global_tables.proofs.Rising.{map_back}
 use Rattle.global_tables.proofs.RowLaws.{told_weaker}

@@ -9,7 +9,8 @@ use Rattle.std.proofs.lemmas.List.{take_more}
 use Rattle.cell_world.specs.Images.{Image, Global, global, image_at, end_of_trail}
 use Rattle.cell_world.specs.Lists.{IsOneOf}
 use Rattle.cell_world.specs.Stores.{Store, IsStore, Stands, own_key}
-use Rattle.cell_world.specs.Finding.{cell_cmp, kind_number, IsScan, IsFromOn}
+use Rattle.cell_world.specs.Finding.{IsScan, IsFromOn}
+use Rattle.cell_world.specs.Orders.{cell_cmp, kind_number}
 use Rattle.cell_world.specs.Outside.{Told, TellsNothing, TellsContents, TellsTrail, IfContents, TellsCells}
 use Rattle.cell_world.specs.declared.cells.Cell.{Cell}
 use Rattle.cell_world.specs.declared.cells.CellKey.{CellKey}

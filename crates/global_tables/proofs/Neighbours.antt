@@ -13,7 +13,7 @@ use Rattle.cell_world.specs.Keys.{same, low_of}
 use Rattle.cell_world.specs.Lists.{IsOneOf}
 use Rattle.cell_world.specs.Spelled.{IsTyped}
 use Rattle.cell_world.specs.Stores.{own_key}
-use Rattle.cell_world.specs.Finding.{cell_cmp, kind_number, map_of}
+use Rattle.cell_world.specs.Orders.{cell_cmp, kind_number, map_of}
 use Rattle.cell_world.specs.declared.cells.Cell.{Cell}
 use Rattle.cell_world.specs.declared.cells.Cell.TheVariants as cell
 use Rattle.cell_world.specs.declared.cells.CellKey.{CellKey}

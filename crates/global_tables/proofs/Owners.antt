@@ -13,13 +13,14 @@ use Rattle.cell_world.specs.Keys.{contains, low_of, at_most}
 use Rattle.cell_world.specs.Meaning.{owner_of}
 use Rattle.cell_world.specs.Sound.{Sound, HasPiece, IsKeyOf}
 use Rattle.cell_world.specs.Stores.{Stands, piece_key, own_key}
-use Rattle.cell_world.specs.Finding.{cell_cmp, IsFloor, IsAtOrBelow}
+use Rattle.cell_world.specs.Finding.{IsFloor, IsAtOrBelow}
+use Rattle.cell_world.specs.Orders.{cell_cmp}
 use Rattle.cell_world.specs.Outside.{Told, TellsNothing, TellsContents, TellsTrail, IfContents}
 use Rattle.cell_world.specs.declared.cells.Cell.TheVariants as cell
 use Rattle.cell_world.specs.declared.cells.CellKey.TheVariants as at
 use Rattle.cell_world.specs.declared.operations.Piece.{Piece}
 use Rattle.cell_world.proofs.SpanLaws.{contains_between, low_at_most, overlaps_shared, holds_low}
-use Rattle.cell_world.proofs.OwnerLaws.{owner_stands, owner_is}
+use Rattle.image_laws.proofs.OwnerLaws.{owner_stands, owner_is}
 use Rattle.global_tables.specs.Reads.{IsKeyIfThere, if_over}
 
 -- ---- keys of one map are ordered by their low keys

@@ -16,7 +16,8 @@ use Rattle.global_tables.specs.declared.groups.Group.{Group}
 use Rattle.global_tables.specs.declared.groups.Group.TheVariants as group
 use Rattle.global_tables.specs.declared.rows.ShardRow.{ShardRow}
 use Rattle.global_tables.specs.declared.faults.StepFault.{StepFault}
-use Rattle.global_tables.specs.Groups.{members, shards_in, locations_in, pieces_in, cells_of}
+use Rattle.cell_world.specs.Members.{members}
+use Rattle.global_tables.specs.Groups.{shards_in, locations_in, pieces_in, cells_of}
 use Rattle.global_tables.proofs.Rising.{map_back}
 
 -- what follows of a store is so where it is told

@@ -5,8 +5,9 @@ use Rattle.std.specs.FinSet as set
 use Rattle.std.specs.declared.cmp.Ordering.{Ordering}
 use Rattle.cell_world.specs.Texts.{Text}
 use Rattle.cell_world.specs.Keys.{same}
+use Rattle.cell_world.specs.Members.{members}
 use Rattle.cell_world.specs.Stores.{Store, Shards, Tables, Mappings, own_key}
-use Rattle.cell_world.specs.Finding.{kind_number, map_of}
+use Rattle.cell_world.specs.Orders.{kind_number, map_of}
 use Rattle.cell_world.specs.declared.cells.Cell.{Cell}
 use Rattle.cell_world.specs.declared.cells.Cell.TheVariants as cell
 use Rattle.cell_world.specs.declared.cells.CellKey.{CellKey}
@@ -14,16 +15,6 @@ use Rattle.cell_world.specs.declared.cells.CellKey.TheVariants as at
 use Rattle.cell_world.specs.declared.operations.Piece.{Piece}
 use Rattle.global_tables.specs.declared.groups.Group.{Group}
 use Rattle.global_tables.specs.declared.groups.Group.TheVariants as group
-
--- ---- sets
-
-abbrev pub with_nothing : {K : Type 0} → List K → List (K × Unit {0})
-with_nothing [] = []
-with_nothing (k ∷ ks) = (k, tt) ∷ with_nothing ks
-
--- The members of a set in order, each once: the keys of a map with nothing at them.
-abbrev pub members : {K : Type 0} {R : K → K → Ordering} → set.FinSet R → List K
-members {R = R} s = fin.keys (fin.from_entries {R = R} (with_nothing (set.items s)))
 
 -- ---- the cells of one map
 

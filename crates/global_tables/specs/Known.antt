@@ -11,7 +11,7 @@ use Rattle.global_tables.specs.declared.rows.MapRow.{MapRow}
 use Rattle.global_tables.specs.declared.rows.ShardRow.{ShardRow}
 use Rattle.global_tables.specs.declared.rows.TableRow.{TableRow}
 use Rattle.global_tables.specs.declared.rows.AwayRow.{AwayRow}
-use Rattle.global_tables.specs.Groups.{members}
+use Rattle.cell_world.specs.Members.{members}
 
 pub record Known : Type 0 where
   pub maps : List MapRow  -- by name

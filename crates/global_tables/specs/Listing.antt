@@ -2,7 +2,7 @@
 use Rattle.std.specs.Prelude.{◌≡◌, ℕ, ◌<◌, ◌≤◌, false, List, [], ◌∷◌, ◌++◌, length, filter, Option, Some, None}
 use Rattle.std.specs.Ordering.{is_lt}
 use Rattle.cell_world.specs.Stores.{Store, own_key}
-use Rattle.cell_world.specs.Finding.{cell_cmp, kind_number}
+use Rattle.cell_world.specs.Orders.{cell_cmp, kind_number}
 use Rattle.cell_world.specs.declared.cells.Cell.{Cell}
 use Rattle.cell_world.specs.declared.cells.CellKey.{CellKey}
 use Rattle.global_tables.specs.declared.groups.Group.{Group}

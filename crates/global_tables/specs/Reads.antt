@@ -5,14 +5,14 @@ use Rattle.cell_world.specs.Keys.{contains}
 use Rattle.cell_world.specs.KeyForms.{is_normal}
 use Rattle.cell_world.specs.Stores.{Maps}
 use Rattle.cell_world.specs.Sound.{HasMap}
-use Rattle.cell_world.specs.Outside.{Outside, Same, read_at}
+use Rattle.cell_world.specs.Outside.{Outside, SameButFaults, read_at}
 use Rattle.cell_world.specs.declared.cells.MapKind.{MapKind}
 use Rattle.cell_world.specs.declared.cells.KeyType.{KeyType}
 use Rattle.cell_world.specs.declared.operations.Piece.{Piece}
 
 -- The global store was read once, and nothing else happened.
 abbrev pub ReadsOnce : Outside → Outside → Type 0
-ReadsOnce old new = Same (read_at old (record { 0 = 0 })) new
+ReadsOnce old new = SameButFaults (read_at old (record { 0 = 0 })) new
 
 -- where the map stands, the key is a normal form of its key type
 abbrev pub IsKeyIfThere : Maps → Text → Text → Type 0

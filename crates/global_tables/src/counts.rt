@@ -2,13 +2,12 @@
 ghost use Rattle.std.specs.Prelude.{◌≡◌, IfOk, IsErrOf, nat_le};
 ghost use Rattle.cell_world.specs.Counts.{Rose};
 ghost use Rattle.cell_world.specs.Images.{global};
-ghost use Rattle.cell_world.specs.Outside.{IfContents};
+ghost use Rattle.cell_world.specs.Outside.{IfContents, IsLater};
 ghost use Rattle.global_tables.specs.Groups.{count_of};
-ghost use Rattle.global_tables.specs.Later.{IsLater};
 
 use crate::faults::{StepFault, fault_of};
 use crate::groups::Group;
-use crate::reads::GLOBAL;
+use cell_world::cells::Site;
 use cell_world::outside::World;
 use std::alloc::Global;
 
@@ -24,7 +23,7 @@ pub fn is_full<W: World>(
     ensures later { IsLater (W.outside world.old) (W.outside world.new) }
     ensures cause { IsErrOf result StepFault.Store → Rose ((W.outside world.old).faults_at 0) ((W.outside world.new).faults_at 0) }
 {
-    match world.scan(alloc, GLOBAL, &group.least(), limit) {
+    match world.scan(alloc, Site::GLOBAL, &group.least(), limit) {
         Ok(found) => Ok(group.count(&found) >= limit as usize),
         Err(error) => Err(fault_of(error)),
     }

@@ -1,6 +1,6 @@
 //! Keys of cells.
 ghost use Rattle.std.specs.Prelude.{◌≡◌, option_map};
-ghost use Rattle.cell_world.specs.Finding.{kind_number, map_of};
+ghost use Rattle.cell_world.specs.Orders.{kind_number, map_of};
 ghost use Rattle.cell_world.specs.Stores.{own_key};
 
 use cell_world::cells::{Cell, CellKey};

@@ -2,9 +2,8 @@
 ghost use Rattle.std.specs.Prelude.{◌≡◌, IfOk, IsErrOf};
 ghost use Rattle.cell_world.specs.Counts.{Rose};
 ghost use Rattle.cell_world.specs.Images.{global};
-ghost use Rattle.cell_world.specs.Outside.{IfContents};
+ghost use Rattle.cell_world.specs.Outside.{IfContents, IsLater};
 ghost use Rattle.global_tables.specs.Known.{known_of};
-ghost use Rattle.global_tables.specs.Later.{IsLater};
 
 use crate::faults::StepFault;
 use crate::groups::Group;

@@ -3,9 +3,8 @@ ghost use Rattle.std.specs.Prelude.{◌≡◌, map, filter, IfOk, IsErrOf};
 ghost use Rattle.std.specs.FinMap as fin;
 ghost use Rattle.cell_world.specs.Counts.{Rose};
 ghost use Rattle.cell_world.specs.Images.{global};
-ghost use Rattle.cell_world.specs.Outside.{IfContents};
+ghost use Rattle.cell_world.specs.Outside.{IfContents, IsLater};
 ghost use Rattle.global_tables.specs.Groups.{pieces_in, locations_in};
-ghost use Rattle.global_tables.specs.Later.{IsLater};
 
 use crate::faults::StepFault;
 use crate::groups::Group;

@@ -10,9 +10,9 @@ ghost use Rattle.cell_world.specs.Sound.{Sound};
 ghost use Rattle.global_tables.specs.Reads.{IsKeyIfThere, ReadsOnce, if_over};
 
 use crate::faults::StepFault;
-use crate::reads::{GLOBAL, floor_row, read_row};
+use crate::reads::{floor_row, read_row};
 use crate::rows::AwayRow;
-use cell_world::cells::{Away, CellKey, Counters, SiteState};
+use cell_world::cells::{Away, CellKey, Counters, Site, SiteState};
 use cell_world::locations::Location;
 use cell_world::names::Name;
 use cell_world::norm_keys::NormKey;
@@ -33,7 +33,7 @@ pub fn piece_at<W: World>(
     ensures same { ReadsOnce (W.outside world.old) (W.outside world.new) }
     ensures cause { IsErrOf result StepFault.Store → Rose ((W.outside world.old).faults_at 0) ((W.outside world.new).faults_at 0) }
 {
-    let below = floor_row(alloc, world, GLOBAL, &CellKey::Piece(*map, *key))?;
+    let below = floor_row(alloc, world, Site::GLOBAL, &CellKey::Piece(*map, *key))?;
     Ok(if_over(&below, key))
 }
 
@@ -64,7 +64,7 @@ pub fn log_row<W: World>(
     ensures same { ReadsOnce (W.outside world.old) (W.outside world.new) }
     ensures cause { IsErrOf result StepFault.Store → Rose ((W.outside world.old).faults_at 0) ((W.outside world.new).faults_at 0) }
 {
-    read_row(alloc, world, GLOBAL, &CellKey::Log(number))
+    read_row(alloc, world, Site::GLOBAL, &CellKey::Log(number))
 }
 
 /// The job of this number. `None` exactly where none stands. `Store`: the store refused. After an error nothing has
@@ -78,7 +78,7 @@ pub fn job_row<W: World>(
     ensures same { ReadsOnce (W.outside world.old) (W.outside world.new) }
     ensures cause { IsErrOf result StepFault.Store → Rose ((W.outside world.old).faults_at 0) ((W.outside world.new).faults_at 0) }
 {
-    read_row(alloc, world, GLOBAL, &CellKey::Job(number))
+    read_row(alloc, world, Site::GLOBAL, &CellKey::Job(number))
 }
 
 /// The state of a site; one without a cell is attached. `Store`: the store refused. After an error nothing has changed
@@ -92,7 +92,7 @@ pub fn site_state<W: World>(
     ensures same { ReadsOnce (W.outside world.old) (W.outside world.new) }
     ensures cause { IsErrOf result StepFault.Store → Rose ((W.outside world.old).faults_at 0) ((W.outside world.new).faults_at 0) }
 {
-    let found: Option<AwayRow> = read_row(alloc, world, GLOBAL, &CellKey::SiteState(*at))?;
+    let found: Option<AwayRow> = read_row(alloc, world, Site::GLOBAL, &CellKey::SiteState(*at))?;
     Ok(match found {
         None => SiteState::Attached,
         Some(away) => match away.state {
@@ -109,7 +109,7 @@ pub fn counters<W: World>(alloc: Global, world: &mut W) -> Result<Counters, Step
     ensures same { ReadsOnce (W.outside world.old) (W.outside world.new) }
     ensures cause { IsErrOf result StepFault.Store → Rose ((W.outside world.old).faults_at 0) ((W.outside world.new).faults_at 0) }
 {
-    let found: Option<Counters> = read_row(alloc, world, GLOBAL, &CellKey::Counter)?;
+    let found: Option<Counters> = read_row(alloc, world, Site::GLOBAL, &CellKey::Counter)?;
     Ok(match found {
         None => Counters {
             operation: 1,

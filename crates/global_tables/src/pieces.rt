@@ -2,17 +2,15 @@
 ghost use Rattle.std.specs.Prelude.{◌≡◌, ◌++◌, map, IfOk, IsErrOf, Err};
 ghost use Rattle.cell_world.specs.Counts.{Rose};
 ghost use Rattle.cell_world.specs.Images.{global};
-ghost use Rattle.cell_world.specs.Outside.{IfContents};
+ghost use Rattle.cell_world.specs.Outside.{IfContents, IsLater};
 ghost use Rattle.global_tables.specs.Groups.{cells_of};
-ghost use Rattle.global_tables.specs.Later.{IsLater};
 ghost use Rattle.global_tables.specs.Listing.{IsUpTo, Lists, TakesPiece};
 
 use crate::faults::{StepFault, fault_of};
 use crate::groups::Group;
 use crate::keys::key_of;
-use crate::reads::GLOBAL;
 use crate::rows::Row;
-use cell_world::cells::{Cell, CellKey};
+use cell_world::cells::{Cell, CellKey, Site};
 use cell_world::outside::World;
 use std::alloc::Global;
 
@@ -69,7 +67,7 @@ fn list_piece<W: World, T: Row>(
     ensures later { IsLater (W.outside world.old) (W.outside world.new) }
     ensures cause { IsErrOf result StepFault.Store → Rose ((W.outside world.old).faults_at 0) ((W.outside world.new).faults_at 0) }
 {
-    match world.scan(alloc, GLOBAL, from, PIECE_SIZE) {
+    match world.scan(alloc, Site::GLOBAL, from, PIECE_SIZE) {
         Ok(found) => take_piece(group, &found, rows),
         Err(error) => Err(fault_of(error)),
     }

@@ -2,7 +2,7 @@
 ghost use Rattle.std.specs.Prelude.{◌≡◌, option_map, IfOk, IsErrOf};
 ghost use Rattle.cell_world.specs.Counts.{Rose};
 ghost use Rattle.cell_world.specs.Finding.{IsFloor};
-ghost use Rattle.cell_world.specs.Outside.{IsSite, OfStore, Same, read_at};
+ghost use Rattle.cell_world.specs.Outside.{IsSite, OfStore, SameButFaults, read_at};
 ghost use Rattle.cell_world.specs.Stores.{cell_at};
 
 use crate::faults::{StepFault, fault_of};
@@ -10,9 +10,6 @@ use crate::rows::{Row, row_in};
 use cell_world::cells::{CellKey, Site};
 use cell_world::outside::World;
 use std::alloc::Global;
-
-/// The global store.
-pub const GLOBAL: Site = Site(0);
 
 /// What the cell under the key says, by one read.
 pub fn read_row<W: World, T: Row>(
@@ -23,7 +20,7 @@ pub fn read_row<W: World, T: Row>(
 ) -> Result<Option<T>, StepFault>
     requires { IsSite (W.outside world.old) site }
     ensures found { IfOk result (λ row. OfStore (W.outside world.old) site (λ s. option_map T.cell_of row ≡ cell_at s key.now)) }
-    ensures same { Same (read_at (W.outside world.old) site) (W.outside world.new) }
+    ensures same { SameButFaults (read_at (W.outside world.old) site) (W.outside world.new) }
     ensures cause { IsErrOf result StepFault.Store → Rose ((W.outside world.old).faults_at site.0) ((W.outside world.new).faults_at site.0) }
 {
     match world.read(alloc, site, key) {
@@ -41,7 +38,7 @@ pub fn floor_row<W: World, T: Row>(
 ) -> Result<Option<T>, StepFault>
     requires { IsSite (W.outside world.old) site }
     ensures found { IfOk result (λ row. OfStore (W.outside world.old) site (λ s. IsFloor s key.now (option_map T.cell_of row))) }
-    ensures same { Same (read_at (W.outside world.old) site) (W.outside world.new) }
+    ensures same { SameButFaults (read_at (W.outside world.old) site) (W.outside world.new) }
     ensures cause { IsErrOf result StepFault.Store → Rose ((W.outside world.old).faults_at site.0) ((W.outside world.new).faults_at site.0) }
 {
     match world.floor(alloc, site, key) {

@@ -10,7 +10,7 @@ use Rattle.cell_world.specs.ByteOrder.{byte_cmp}
 use Rattle.cell_world.specs.Keys.{at_most, below, low_of}
 use Rattle.cell_world.specs.Spelled.{IsLocalRow, IsSpan}
 use Rattle.cell_world.specs.Stores.{own_key}
-use Rattle.cell_world.specs.Finding.{cell_cmp}
+use Rattle.cell_world.specs.Orders.{cell_cmp}
 use Rattle.cell_world.specs.declared.cells.Cell.TheVariants as cell
 use Rattle.cell_world.specs.declared.cells.CellKey.TheVariants as at
 use Rattle.cell_world.specs.declared.cells.LocalRow.{LocalRow}

@@ -14,7 +14,8 @@ use Rattle.cell_world.specs.Lists.{IsOneOf}
 use Rattle.cell_world.specs.Orders.{local_cmp}
 use Rattle.cell_world.specs.Spelled.{IsLocalRow}
 use Rattle.cell_world.specs.Stores.{Store, IsStore, Stands, Log, Locals, local_key, own_key}
-use Rattle.cell_world.specs.Finding.{cell_cmp, kind_number, map_of, IsFloor, IsAtOrBelow}
+use Rattle.cell_world.specs.Finding.{IsFloor, IsAtOrBelow}
+use Rattle.cell_world.specs.Orders.{cell_cmp, kind_number, map_of}
 use Rattle.cell_world.specs.Meaning.{counts, counts_with}
 use Rattle.cell_world.specs.Sound.{HasLocal}
 use Rattle.cell_world.specs.declared.cells.Cell.{Cell}
@@ -27,7 +28,7 @@ use Rattle.cell_world.specs.declared.cells.Mark.{Mark}
 use Rattle.cell_world.specs.declared.cells.Mark.TheVariants.{Plain, Old, New}
 use Rattle.cell_world.proofs.OrderLaws.{locals_total, exact_locals}
 use Rattle.cell_world.proofs.SpanLaws.{same_is, same_self, contains_between, low_at_most, at_most_trans}
-use Rattle.cell_world.proofs.ValueLaws.{value_found, value_there}
+use Rattle.image_laws.proofs.ValueLaws.{value_found, value_there}
 use Rattle.global_tables.specs.declared.faults.StepFault.{StepFault}
 use Rattle.global_tables.proofs.CellOrder.{cell_total, by_number}
 use Rattle.global_tables.proofs.GroupCells as group_cells

@@ -7,7 +7,7 @@ use Rattle.cell_world.specs.Texts.{Text}
 use Rattle.cell_world.specs.Keys.{same, contains, low_of, at_most}
 use Rattle.cell_world.specs.Spelled.{IsLocalRow}
 use Rattle.cell_world.specs.Stores.{Log, Locals, own_key}
-use Rattle.cell_world.specs.Finding.{cell_cmp}
+use Rattle.cell_world.specs.Orders.{cell_cmp}
 use Rattle.cell_world.specs.Meaning.{counts}
 use Rattle.cell_world.specs.Sound.{HasLocal}
 use Rattle.cell_world.specs.declared.cells.Cell.TheVariants as cell

@@ -3,8 +3,7 @@ ghost use Rattle.std.specs.Prelude.{◌≡◌, ◌≤◌, ◌<◌, ◌+◌, ◌�
 ghost use Rattle.cell_world.specs.Counts.{Rose};
 ghost use Rattle.cell_world.specs.Images.{global};
 ghost use Rattle.cell_world.specs.Meaning.{counts};
-ghost use Rattle.cell_world.specs.Outside.{IfContents, IsSite, store_at};
-ghost use Rattle.global_tables.specs.Later.{IsLater};
+ghost use Rattle.cell_world.specs.Outside.{IfContents, IsLater, IsSite, store_at};
 ghost use Rattle.local_tables.specs.Resolving.{CountApart, GoesBelow, IsFrom, Judges, Looks, NoneAbove, StaysFrom, left_after, log_reads, marks_left, reads_over};
 
 use crate::below::key_below;

@@ -2,8 +2,7 @@
 ghost use Rattle.std.specs.Prelude.{◌≡◌, ◌≤◌, ◌<◌, ◌+◌, ◌⊎◌, IfOk, IsErrOf};
 ghost use Rattle.cell_world.specs.Counts.{Rose};
 ghost use Rattle.cell_world.specs.Images.{global};
-ghost use Rattle.cell_world.specs.Outside.{IfContents, IsSite, store_at};
-ghost use Rattle.global_tables.specs.Later.{IsLater};
+ghost use Rattle.cell_world.specs.Outside.{IfContents, IsLater, IsSite, store_at};
 ghost use Rattle.local_tables.specs.Resolving.{CountApart, marks_over, resolved};
 
 use crate::judging::{Look, step_down};

@@ -1,7 +1,7 @@
 use Rattle.std.proofs.Common.{◌≡◌, map}
 use Rattle.cell_world.specs.Images.{global}
 use Rattle.cell_world.specs.Outside.{IfContents}
-use Rattle.global_tables.specs.Later.{IsLater}
+use Rattle.cell_world.specs.Outside.{IsLater}
 use Rattle.global_tables.specs.Listing.{IsUpTo}
 use Rattle.global_tables.proofs.pieces.rows_of.Given as goal
 

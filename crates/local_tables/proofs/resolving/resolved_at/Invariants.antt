@@ -1,6 +1,6 @@
 use Rattle.std.proofs.Common.{◌≡◌}
 use Rattle.cell_world.specs.Outside.{IfContents}
-use Rattle.global_tables.specs.Later.{IsLater}
+use Rattle.cell_world.specs.Outside.{IsLater}
 use Rattle.local_tables.proofs.SearchTells.{At, None_above, Spent}
 use Rattle.local_tables.proofs.resolving.resolved_at.Given as goal
 
