@@ -1,0 +1,11 @@
+pub mod CellOrder
+pub mod Counting
+pub mod Entries
+pub mod GroupCells
+pub mod KnownLaws
+pub mod Least
+pub mod ListingLaws
+pub mod Neighbours
+pub mod Owners
+pub mod Rising
+pub mod RowLaws

@@ -1,0 +1,4 @@
+pub mod Groups
+pub mod Known
+pub mod Listing
+pub mod Reads

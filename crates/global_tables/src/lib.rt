@@ -1,0 +1,13 @@
+//! What the cells of the global store say.
+#![tactic(auto)]
+
+pub mod counts;
+pub mod faults;
+pub mod groups;
+mod keys;
+pub mod known;
+pub mod lists;
+pub mod lookups;
+mod pieces;
+pub mod reads;
+pub mod rows;
