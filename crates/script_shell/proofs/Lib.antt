@@ -1,4 +1,5 @@
 pub mod CallLaws
 pub mod HistoryLaws
 pub mod LoopLaws
+pub mod ReadingLaws
 pub mod ScriptLaws

@@ -1,5 +1,5 @@
 use Rattle.std.specs.List.{IsDistinct}
-use Rattle.world_memory.proofs.tests.empty_world.Goals as goal
+use Rattle.base_tests.proofs.memory.empty_world.Goals as goal
 
 pub new-requires-clause-distinct : goal.new-requires-clause-distinct
 unfolding IsDistinct

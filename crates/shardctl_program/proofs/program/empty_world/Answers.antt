@@ -1,5 +1,5 @@
 use Rattle.std.specs.List.{IsDistinct}
-use Rattle.shardctl.proofs.program.empty_world.Goals as goal
+use Rattle.shardctl_program.proofs.program.empty_world.Goals as goal
 
 pub new-requires-clause-distinct : goal.new-requires-clause-distinct
 unfolding IsDistinct
