@@ -27,7 +27,7 @@ struct Parts {
     key: NormKey,
 }
 
-fn parts() -> Result<Parts, Fail> {
+fn make_parts() -> Result<Parts, Fail> {
     let map = Name::read(b"orders").ok_or("a name")?;
     let table = Name::read(b"lines").ok_or("a name")?;
     let location = Location::read(b"s/a").ok_or("a location")?;
@@ -81,16 +81,18 @@ fn piece(parts: &Parts) -> Piece {
 fn log_cell(parts: &Parts) -> Cell
     ensures { IsTrue (is_spelled result) }
 {
-    let none = Pieces {
-        one: None,
-        two: None,
-    };
     Cell::Log(Op {
         number: 3,
         map: parts.map,
         hull: Span::Range(parts.key, High::Max),
-        olds: none,
-        news: none,
+        olds: Pieces {
+            one: None,
+            two: None,
+        },
+        news: Pieces {
+            one: None,
+            two: None,
+        },
         extra: Extra::JobPut(job(parts)),
     })
 }
@@ -198,7 +200,7 @@ fn crashed_now(alloc: Global, world: &MemoryWorld) -> Result<MemoryWorld, Fail> 
 
 #[test]
 fn each_kind_of_cell_comes_and_goes(rt: HostRuntime) -> Result<(), Fail> {
-    let parts = parts()?;
+    let parts = make_parts()?;
     for kind in 1..10u8 {
         let cell = cell_of_kind(&parts, kind);
         let key = key_of_kind(&parts, kind);
@@ -209,7 +211,7 @@ fn each_kind_of_cell_comes_and_goes(rt: HostRuntime) -> Result<(), Fail> {
 
 #[test]
 fn rows_come_and_go_with_bytes_and_without(rt: HostRuntime) -> Result<(), Fail> {
-    let parts = parts()?;
+    let parts = make_parts()?;
     for length in [0, 1, 1024] {
         let cell = row_cell(rt.alloc(), &parts, length)?;
         let key = key_of_kind(&parts, 10);
