@@ -1,5 +1,4 @@
 pub mod CallLaws
 pub mod HistoryLaws
 pub mod LoopLaws
-pub mod ReadingLaws
 pub mod ScriptLaws

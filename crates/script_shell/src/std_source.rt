@@ -20,9 +20,9 @@ impl SteadyRead for Stdin {
 
 // a slice tells its bytes
 impl SteadyRead for &[u8] {
-    ghost use Rattle.script_shell.proofs.ReadingLaws.{never_untold};
+    ghost use Rattle.script_shell.specs.Readers.{is_told};
 
-    ghost steady = { λ a b untold. never_untold untold };
+    ghost steady = { λ a b untold. is_told _ _ untold };
 }
 
 /// A reader as a source: what is left of it is what is left of the reader. An interrupted read counts as a fault.
