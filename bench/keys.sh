@@ -6,7 +6,7 @@
 set -eu
 count=${1:-1000000}
 runs=${2:-5}
-program=$(find crates/bench_keys/out -type f -perm -u+x -name 'bench_keys' | head -n 1)
+program=$(find crates/bench_keys/out -type f -perm -u+x -name 'bench_keys' 2> /dev/null | head -n 1)
 [ -n "$program" ] || { echo "bench: crates/bench_keys is not built: run 'rt run' there" >&2; exit 1; }
 
 # the least time of the runs, in nanoseconds: TYPE COUNT

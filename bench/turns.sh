@@ -8,7 +8,7 @@ set -eu
 plain=${1:-1600000}
 working=${2:-16000}
 runs=${3:-5}
-program=$(find crates/bench_turns/out -type f -perm -u+x -name 'bench_turns' | head -n 1)
+program=$(find crates/bench_turns/out -type f -perm -u+x -name 'bench_turns' 2> /dev/null | head -n 1)
 [ -n "$program" ] || { echo "bench: crates/bench_turns is not built: run 'rt run' there" >&2; exit 1; }
 
 # the least time of the runs, in nanoseconds: THREADS TURNS-OF-ALL ROUNDS. Each run must count every turn.

@@ -1,8 +1,8 @@
 //! The table of worked keys.
+use cell_world::cells::KeyType;
 use key_space::faults::KeyFault;
 use key_space::reading::read_key;
 use key_space::writing::write_key;
-use cell_world::cells::KeyType;
 use std::alloc::Global;
 use std::test::Fail;
 
@@ -105,6 +105,22 @@ fn worked_keys(rt: HostRuntime) -> Result<(), Fail> {
 #[test]
 fn printed_keys(rt: HostRuntime) -> Result<(), Fail> {
     assert!(rt; prints(rt.alloc(), KeyType::Int, b"-2147483648", b"-2147483648")?);
+    assert!(rt;
+        prints(
+            rt.alloc(),
+            KeyType::Long,
+            b"-9223372036854775808",
+            b"-9223372036854775808"
+        )?
+    );
+    assert!(rt;
+        prints(
+            rt.alloc(),
+            KeyType::Timespan,
+            b"9223372036854775807",
+            b"9223372036854775807"
+        )?
+    );
     assert!(rt; prints(rt.alloc(), KeyType::Datetime, b"0", b"0")?);
     assert!(rt; prints(rt.alloc(), KeyType::Bytes, b"0xABcd0000", b"0xabcd")?);
     assert!(rt; prints(rt.alloc(), KeyType::Bytes, b"0x00", b"0x")?);

@@ -6,4 +6,6 @@ mod cells;
 #[cfg(test)]
 mod keys;
 #[cfg(test)]
+mod kinds;
+#[cfg(test)]
 mod memory;

@@ -1,6 +1,4 @@
 //! The calls that take memory, each with enough of it.
-use world_memory::source::MemorySource;
-use world_memory::world::MemoryWorld;
 use cell_world::cells::{Cell, CellKey, RowName, Site};
 use cell_world::changes::Change;
 use cell_world::items::RowBytes;
@@ -10,6 +8,8 @@ use cell_world::norm_keys::NormKey;
 use cell_world::outside::{Source, World};
 use std::alloc::Global;
 use std::test::Fail;
+use world_memory::source::MemorySource;
+use world_memory::world::MemoryWorld;
 
 fn name(bytes: &[u8]) -> Result<Name, Fail> {
     Ok(Name::read(bytes).ok_or("a name")?)
@@ -36,7 +36,7 @@ fn tables(alloc: Global) -> Result<Change, Fail> {
 }
 
 /// A world of one location, without cells.
-fn empty_world(alloc: Global) -> Result<MemoryWorld, Fail> {
+pub fn empty_world(alloc: Global) -> Result<MemoryWorld, Fail> {
     let at = Location::read(b"s/a").ok_or("a location")?;
     Ok(MemoryWorld::new(alloc, &[at])?)
 }

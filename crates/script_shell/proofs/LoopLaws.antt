@@ -1,5 +1,5 @@
 -- The loop over the commands.
-use Rattle.std.proofs.Common.{◌≡◌, ◌⊎◌, inl, inr, ℕ, ◌+◌, ◌<◌, Bool, true, false, cond, ◌||◌, nat_lt, length, List, [], ◌∷◌, ◌++◌, Option, Some, None, refl, sym, ap, ◌∙◌, subst, arith}
+use Rattle.std.proofs.Common.{◌≡◌, ◌⊎◌, inl, inr, ℕ, ◌+◌, Bool, true, false, cond, ◌||◌, nat_lt, length, List, [], ◌∷◌, ◌++◌, Option, Some, None, refl, sym, ap, ◌∙◌, subst, arith}
 use Rattle.std.specs.Prelude.{IsSome}
 use Rattle.std.specs.List.{AllByRecursion}
 use Rattle.std.proofs.lemmas.List.{append_assoc}
@@ -285,8 +285,7 @@ ends_stopped script asked rest left old mid new before history after refused non
     by_fault a =
         let fault : a.0 ≡ reply.Fault = a_fault a.0 (sym a.1) in
         let one : faults after ≡ 1 = faults_more script asked rest left old mid new before history after refused so next a.0 a.2 ∙ ap (λ r. cond (is_fault r) 1 0) fault in
-        let enough : replies_of is_memory after ≡ 0 = count_more script asked rest left old mid new before history after refused so next a.0 a.2 is_memory ∙ (λ i. so.no_memory i + cond (is_memory (fault i)) 1 0) in
-        (
+        let enough : replies_of is_memory after ≡ 0 = count_more script asked rest left old mid new before history after refused so next a.0 a.2 is_memory ∙ (λ i. so.no_memory i + cond (is_memory (fault i)) 1 0) in (
           added a.0 [] status.StoreFault a.2 a.3 (inl refl) refl refl,
           (store_rose_one old new onward.faults (omega (arith, so.later.faults 0, a.2.cause fault)), inl (omega (arith, one)), enough),
           refl,

@@ -1,3 +1,4 @@
 pub mod Promises
+pub mod Readers
 pub mod Scripts
 pub mod Stops

@@ -5,5 +5,3 @@ mod run;
 mod script;
 pub mod shell;
 pub mod std_source;
-#[cfg(test)]
-mod tests;

@@ -2,13 +2,13 @@
 ghost use Rattle.std.specs.Prelude.{◌≡◌, ◌≤◌, []};
 ghost use Rattle.script_shell.specs.Promises.{RunsScript, Completes};
 
-use script_lang::reading::{ReadStop, read_all};
 use crate::run::run_commands;
 use crate::script::{ScriptStop, read_script};
 use cell_world::outside::{Source, World};
 use manager_core::manager::Core;
 use plain_model::finish::{Finish, Reason, RunStatus};
 use plain_model::history::History;
+use script_lang::reading::{ReadStop, read_all};
 use std::alloc::Global;
 
 /// How a run ended that asked nothing.

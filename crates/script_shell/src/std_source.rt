@@ -5,18 +5,36 @@ ghost use Rattle.std.proofs.Math.Nat.{min-le_right};
 
 use cell_world::outside::{Source, SourceError};
 use std::alloc::Global;
-use std::io::Read;
+use std::io::{Read, Stdin};
 
-/// A reader as a source. It tells nothing of what is left. An interrupted read counts as a fault.
+/// A reader that tells at all times what is left of it, or never does.
+pub trait SteadyRead: Read {
+    /// Untold once is untold at any time.
+    ghost steady: { (a b : Self) → Self.remaining a ≡ None → Self.remaining b ≡ None };
+}
+
+// of standard input nothing is told
+impl SteadyRead for Stdin {
+    ghost steady = { λ a b untold. untold };
+}
+
+// a slice tells its bytes
+impl SteadyRead for &[u8] {
+    ghost use Rattle.script_shell.specs.Readers.{is_told};
+
+    ghost steady = { λ a b untold. is_told _ _ untold };
+}
+
+/// A reader as a source: what is left of it is what is left of the reader. An interrupted read counts as a fault.
 #[derive(Drop)]
-pub struct StdSource<I: Read + Drop> {
+pub struct StdSource<I: SteadyRead + Drop> {
     /// What is read.
     input: I,
     /// How often reading has failed.
     faults: u64,
 }
 
-impl<I: Read + Drop> StdSource<I> {
+impl<I: SteadyRead + Drop> StdSource<I> {
     /// A source of which nothing was taken yet.
     pub fn new(input: I) -> StdSource<I>
         ensures { result ≡ record { input = input; faults = 0 } }
@@ -25,8 +43,8 @@ impl<I: Read + Drop> StdSource<I> {
     }
 }
 
-impl<I: Read + Drop> Source for StdSource<I> {
-    ghost left = { λ source. None };
+impl<I: SteadyRead + Drop> Source for StdSource<I> {
+    ghost left = { λ source. I.remaining source.input };
 
     ghost faults = { λ source. min source.faults last_count };
 

@@ -1,12 +1,11 @@
 //! Scripts as tests, over the world and the source in memory.
-use crate::program::empty_world;
 use cell_world::names::Name;
 use cell_world::outside::World;
 use plain_model::commands::Command;
 use plain_model::finish::{Reason, RunStatus};
 use plain_model::history::History;
-use script_lang::endings::standard_error_line;
 use script_shell::shell::run_script;
+use shardctl_program::program::empty_world;
 use std::alloc::Global;
 use std::test::Fail;
 use world_memory::source::MemorySource;
@@ -121,13 +120,6 @@ fn at_most_64_maps_stand(rt: HostRuntime) -> Result<(), Fail> {
     let output = after.world.output(alloc)?;
     assert_eq!(rt; output.len(), 64 * 3 + 5);
     assert_eq!(rt; &output[64 * 3..], b"full\n".as_slice());
-    Ok(())
-}
-
-#[test]
-fn a_status_is_told_in_one_line(rt: HostRuntime) -> Result<(), Fail> {
-    let line = standard_error_line(rt.alloc(), b"shardctl", &RunStatus::BadWords(3))?;
-    assert_eq!(rt; line.as_slice(), b"shardctl: bad words at 3\n".as_slice());
     Ok(())
 }
 

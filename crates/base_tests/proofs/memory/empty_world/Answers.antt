@@ -1,6 +1,6 @@
 use Rattle.std.specs.List.{IsDistinct}
-use Rattle.shardctl.proofs.program.empty_world.Goals as goal
+use Rattle.base_tests.proofs.memory.empty_world.Goals as goal
 
 pub new-requires-clause-distinct : goal.new-requires-clause-distinct
 unfolding IsDistinct
-new-requires-clause-distinct c = tt
+new-requires-clause-distinct c = (tt, tt)

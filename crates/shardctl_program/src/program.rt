@@ -1,15 +1,17 @@
 //! The program over any words, input and output.
 ghost use Rattle.std.specs.Prelude.{◌≡◌, IfOk, []};
 ghost use Rattle.cell_world.specs.Images.{empty_image};
+ghost use Rattle.script_lang.specs.Endings.{exit_status};
 ghost use Rattle.world_memory.specs.Memory.{outside_of};
 ghost use Rattle.world_memory.specs.Told.{fresh};
 
 use cell_world::memory::Memory;
 use plain_model::finish::RunStatus;
+use script_lang::endings::{exit_number, standard_error_line};
 use script_shell::shell::run_script;
-use script_shell::std_source::StdSource;
+use script_shell::std_source::{StdSource, SteadyRead};
 use std::alloc::Global;
-use std::io::{Read, Write};
+use std::io::Write;
 use world_memory::world::MemoryWorld;
 
 /// A world without locations, in which nothing happened yet.
@@ -20,7 +22,7 @@ pub fn empty_world(alloc: Global) -> Result<MemoryWorld, Memory>
 }
 
 /// Runs a script over stores in memory, and then writes what it wrote.
-pub fn run<I: Read + Drop, O: Write>(
+pub fn run<I: SteadyRead + Drop, O: Write>(
     alloc: Global,
     words: &Vec<String>,
     input: I,
@@ -38,4 +40,15 @@ pub fn run<I: Read + Drop, O: Write>(
         Ok(()) => finish.status,
         Err(_) => RunStatus::WriteFault,
     }
+}
+
+/// Tells how a run ended, in one line for the statuses 2 to 7, and gives the exit status. Where memory or the
+/// errors fail, the line is lost.
+pub fn tell<E: Write>(alloc: Global, status: &RunStatus, errors: &mut E) -> u8
+    ensures { result ≡ exit_status status.now }
+{
+    if let Ok(line) = standard_error_line(alloc, b"shardctl", status) {
+        let _told = errors.write_all(line.as_slice());
+    }
+    exit_number(status)
 }

@@ -1,0 +1,9 @@
+//! `shardctl`, run on a script of which nothing is refused: its exit status is 0.
+#![tactic(auto)]
+
+use shardctl_program::starting::start;
+use std::process::ExitCode;
+
+fn main(rt: HostRuntime) -> ExitCode {
+    start(&rt)
+}
