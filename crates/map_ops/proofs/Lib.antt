@@ -1,3 +1,1 @@
-pub mod KeyCounts
 pub mod MapPlans
-pub mod ScanLaws

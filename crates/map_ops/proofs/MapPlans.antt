@@ -1,23 +1,19 @@
 -- What was read decides the plan of `map`, and its commit is the plain step.
-use Rattle.std.proofs.Common.{◌≡◌, inl, inr, ℕ, Bool, true, false, length, List, [], ◌∷◌, ◌++◌, Option, Some, None, is_some, refl, sym, ap, ◌∙◌, subst, nat_le}
+use Rattle.std.proofs.Common.{◌≡◌, ℕ, Bool, true, false, List, [], ◌∷◌, ◌++◌, Option, Some, None, is_some, refl, sym, ap, ◌∙◌, subst, nat_le}
 use Rattle.std.specs.Prelude.{Ok, Err}
 use Rattle.std.specs.FinMap as map
 use Rattle.cell_world.specs.Texts.{Text}
-use Rattle.cell_world.specs.Images.{Image, Global, global, image_at, end_of_trail, after_one}
-use Rattle.cell_world.specs.Plain.{PlainState, Connections, holds_nothing, with_connections}
+use Rattle.cell_world.specs.Images.{Image, global}
+use Rattle.cell_world.specs.Plain.{PlainState, Connections, with_connections}
 use Rattle.cell_world.specs.Sound.{Sound}
-use Rattle.cell_world.specs.Stores.{IsStore}
-use Rattle.cell_world.specs.Finding.{IsScan}
-use Rattle.cell_world.specs.Outside.{Told, TellsNothing, TellsContents, TellsTrail, IfContents, TellsCells}
-use Rattle.cell_world.specs.declared.cells.Cell.{Cell}
+use Rattle.cell_world.specs.Outside.{Told, IfContents}
 use Rattle.cell_world.specs.declared.cells.Cell.TheVariants as cell
-use Rattle.cell_world.specs.declared.cells.CellKey.TheVariants as at
 use Rattle.cell_world.specs.declared.cells.MapKind.{MapKind}
 use Rattle.cell_world.specs.declared.cells.KeyType.{KeyType}
 use Rattle.cell_world.specs.declared.changes.Edit.{Edit}
 use Rattle.cell_world.specs.declared.changes.Edit.TheVariants.{Put}
 use Rattle.cell_world.specs.declared.operations.Reach.TheVariants as reach
-use Rattle.cell_world.proofs.ContentsLaws.{contents_weaker, contents_both, contents_store}
+use Rattle.cell_world.proofs.ContentsLaws.{contents_weaker, contents_both}
 use Rattle.image_laws.proofs.CatalogCommits.{meaning-put_map, map_keeps_sound}
 use Rattle.plain_model.specs.declared.commands.Command.{Command}
 use Rattle.plain_model.specs.declared.commands.Command.TheVariants as command
@@ -27,20 +23,8 @@ use Rattle.plain_model.specs.declared.replies.Reply.TheVariants as reply
 use Rattle.plain_model.specs.declared.replies.Refusal.{Refusal}
 use Rattle.plain_model.specs.declared.replies.Refusal.TheVariants as refused
 use Rattle.plain_model.specs.Refusing.{refusal, first_refusal}
-use Rattle.plain_model.specs.ShortCommands.{standing_with, IsShortChange, IsRefusedWith}
+use Rattle.plain_model.specs.ShortCommands.{standing_with, IsShortChange}
 use Rattle.map_ops.specs.Planning.{Plans}
-use Rattle.map_ops.proofs.ScanLaws.{scan_counts}
-
--- ---- what is told
-
-
--- the scan from the least name says whether 64 maps stand
-pub scan_tells : (told : Told) (found : List Cell) (least : Text) (count : ℕ) → TellsCells told → least ≡ 65 ∷ [] → count ≡ length found → IfContents told (λ image. IsScan (global image) (at.Map least) 64 found)
-    → IfContents told (λ image. nat_le 64 count ≡ nat_le 64 (map.len (global image).maps))
-scan_tells told found least count cells is counted scanned =
-    contents_weaker told (λ image. IsStore (global image) × IsScan (global image) (at.Map least) 64 found) (λ image. nat_le 64 count ≡ nat_le 64 (map.len (global image).maps))
-    (λ image both. ap (nat_le 64) counted ∙ scan_counts (global image) both.0 64 found (subst (λ name. IsScan (global image) (at.Map name) 64 found) is both.1))
-    (contents_both told (λ image. IsStore (global image)) (λ image. IsScan (global image) (at.Map least) 64 found) (contents_store told cells) scanned)
 
 -- ---- the plan of `map`
 

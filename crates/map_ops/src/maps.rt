@@ -15,6 +15,9 @@ use cell_world::limits::MOST_MAPS;
 use cell_world::names::Name;
 use cell_world::operations::Reach;
 use cell_world::outside::{World, WorldError};
+use global_tables::counts;
+use global_tables::faults::StepFault;
+use global_tables::groups::Group;
 use plain_model::plans::{Plan, PlanStop};
 use plain_model::replies::{Refusal, Reply};
 use std::alloc::Global;
@@ -32,17 +35,17 @@ fn stands<W: World>(alloc: Global, world: &mut W, name: Name) -> Result<bool, Wo
     }
 }
 
-/// Whether as many maps stand as may: a scan from the least name finds them.
+/// Whether as many maps stand as may.
 fn is_full<W: World>(alloc: Global, world: &mut W) -> Result<bool, WorldError>
     ensures found { IfOk result (λ full. IfContents (W.outside world.old).told (λ image. full ≡ nat_le MOST_MAPS (map.len (global image).maps))) }
     ensures told { (W.outside world.new).told ≡ (W.outside world.old).told }
     ensures later { IsLater (W.outside world.old) (W.outside world.new) }
     ensures cause { IsErrOf result WorldError.Failed → Rose ((W.outside world.old).faults_at 0) ((W.outside world.new).faults_at 0) }
 {
-    let least = Name::least();
-    match world.scan(alloc, Site::GLOBAL, &CellKey::Map(least), MOST_MAPS as u32) {
-        Ok(found) => Ok(found.len() >= MOST_MAPS),
-        Err(error) => Err(error),
+    match counts::is_full(alloc, world, &Group::Maps, MOST_MAPS as u32) {
+        Ok(full) => Ok(full),
+        Err(StepFault::Store) => Err(WorldError::Failed),
+        Err(StepFault::Memory) => Err(WorldError::Memory),
     }
 }
 
