@@ -1,0 +1,7 @@
+//! The plain program: it computes the plain step, slowly, over ordered tables, and judges the real one.
+#![tactic(auto)]
+
+mod checks;
+mod exchanges;
+mod named;
+pub mod state;

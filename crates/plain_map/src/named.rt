@@ -1,0 +1,1 @@
+//! What a command's words name.

@@ -1,0 +1,48 @@
+//! The tables.
+use cell_world::cells::{Away, KeyType, MapKind, RowName};
+use cell_world::items::RowBytes;
+use cell_world::locations::Location;
+use cell_world::names::Name;
+use cell_world::norm_keys::NormKey;
+use cell_world::operations::{JobRow, Piece};
+use std::alloc::Global;
+use std::collections::BTreeMap;
+
+/// A session's way to the rows under one key.
+#[derive(Clone, Copy, PartialEq, Eq)]
+pub struct Link {
+    /// The map that was named.
+    pub map: Name,
+    pub key: NormKey,
+    /// The owner's, when it was opened.
+    pub location: Location,
+    /// False once it was ended.
+    pub live: bool,
+}
+
+/// The mappings, by map and low key.
+pub type Mappings = BTreeMap<(Name, NormKey), Piece>;
+
+/// The plain shard map. A set is a table with nothing at its keys.
+#[derive(Drop)]
+pub struct PlainMap {
+    pub alloc: Global,
+    /// Those that are known.
+    pub locations: Vec<Location>,
+    /// By name: the kind and the key type.
+    pub maps: BTreeMap<Name, (MapKind, KeyType)>,
+    /// A map, and the location of a shard of it.
+    pub shards: BTreeMap<(Name, Location), ()>,
+    /// A map, and a table of it.
+    pub tables: BTreeMap<(Name, Name), ()>,
+    pub mappings: BTreeMap<(Name, NormKey), Piece>,
+    /// By number.
+    pub jobs: BTreeMap<u32, JobRow>,
+    /// The number that the next job gets.
+    pub next_job: u32,
+    /// The sites that aren't attached.
+    pub away: BTreeMap<Location, Away>,
+    pub rows: BTreeMap<RowName, RowBytes>,
+    /// By session and number.
+    pub links: BTreeMap<(u32, u32), Link>,
+}
