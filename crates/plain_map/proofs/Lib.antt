@@ -1,1 +1,4 @@
 pub mod TableLaws
+pub mod SetLaws
+pub mod TableRules
+pub mod Exchanging

@@ -36,7 +36,7 @@ module _ {K X : Type 0} {R : K → K → Ordering} (o : IsTotalOrder R) where
   unfolding IsStrictlySortedBy
   rest_sorted e es h = h.1
 
-  all_entries : (es : List (K × X)) → IsStrictlySortedBy R (keys_of es) → fin.entries (fin.from_entries {R = R} es) ≡ es
+  pub all_entries : (es : List (K × X)) → IsStrictlySortedBy R (keys_of es) → fin.entries (fin.from_entries {R = R} es) ≡ es
   all_entries [] h = nothing _ (sym (fin.len-entries (fin.empty {X = X} {R = R})) ∙ fin.len-empty R X)
   all_entries (e ∷ es) h = fin.entries-insert o (fin.from_entries es) e.0 e.1 ∙ ap (put R e.0 e.1) (all_entries es (rest_sorted e es h)) ∙ put_first e es h
 

@@ -1,12 +1,12 @@
 -- The plain state that the program's tables are.
-use Rattle.std.specs.Prelude.{ℕ, option_map}
+use Rattle.std.specs.Prelude.{ℕ, Option, option_map}
 use Rattle.std.specs.Ordering.{nat_cmp, ordering_then}
 use Rattle.std.specs.BTreeMap.{BTreeMap, get}
 use Rattle.std.specs.declared.cmp.Ordering.{Ordering}
 use Rattle.cell_world.specs.ByteOrder.{byte_cmp}
 use Rattle.cell_world.specs.Orders.{pair_cmp, row_cmp}
 use Rattle.cell_world.specs.Plain.{PlainState, Connection, Connections, holds_nothing}
-use Rattle.plain_map.specs.Tables.{table}
+use Rattle.plain_map.specs.Tables.{table, keys_in}
 use Rattle.plain_map.specs.declared.state.PlainMap.{PlainMap}
 use Rattle.plain_map.specs.declared.state.Link.{Link}
 
@@ -17,17 +17,21 @@ link_cmp a b = ordering_then (nat_cmp a.0 b.0) (nat_cmp a.1 b.1)
 abbrev pub connection : Link → Connection
 connection link = record { map = link.map; key = link.key; location = link.location; live = link.live }
 
+-- a session's connection, if it has one
+abbrev pub link_shown : Option Link → Option Connection
+link_shown link = option_map connection link
+
 -- by session and number
 abbrev pub connections_of : BTreeMap (ℕ × ℕ) Link → Connections
-connections_of links session number = option_map connection (get link_cmp links (session, number))
+connections_of links session number = link_shown (get link_cmp links (session, number))
 
 -- No command that is built changes what a site holds that isn't attached.
 abbrev pub state_of : PlainMap → PlainState
 state_of p = record {
   locations = p.locations.items;
   maps = table byte_cmp p.maps;
-  shards = table pair_cmp p.shards;
-  tables = table pair_cmp p.tables;
+  shards = keys_in pair_cmp p.shards;
+  tables = keys_in pair_cmp p.tables;
   mappings = table pair_cmp p.mappings;
   jobs = table nat_cmp p.jobs;
   next_job = p.next_job;

@@ -4,4 +4,6 @@
 mod checks;
 mod exchanges;
 mod named;
+mod searches;
 pub mod state;
+mod walks;

@@ -6,7 +6,7 @@ use cell_world::names::Name;
 use cell_world::norm_keys::NormKey;
 use cell_world::operations::{JobRow, Piece};
 use std::alloc::Global;
-use std::collections::BTreeMap;
+use std::collections::{BTreeMap, BTreeSet};
 
 /// A session's way to the rows under one key.
 #[derive(Clone, Copy, PartialEq, Eq)]
@@ -23,7 +23,7 @@ pub struct Link {
 /// The mappings, by map and low key.
 pub type Mappings = BTreeMap<(Name, NormKey), Piece>;
 
-/// The plain shard map. A set is a table with nothing at its keys.
+/// The plain shard map, as ordered tables.
 #[derive(Drop)]
 pub struct PlainMap {
     pub alloc: Global,
@@ -32,9 +32,9 @@ pub struct PlainMap {
     /// By name: the kind and the key type.
     pub maps: BTreeMap<Name, (MapKind, KeyType)>,
     /// A map, and the location of a shard of it.
-    pub shards: BTreeMap<(Name, Location), ()>,
+    pub shards: BTreeSet<(Name, Location)>,
     /// A map, and a table of it.
-    pub tables: BTreeMap<(Name, Name), ()>,
+    pub tables: BTreeSet<(Name, Name)>,
     pub mappings: BTreeMap<(Name, NormKey), Piece>,
     /// By number.
     pub jobs: BTreeMap<u32, JobRow>,

@@ -1,0 +1,49 @@
+-- What a set answers is what its finite set answers.
+use Rattle.std.proofs.Common.{◌≡◌, ℕ, Bool, true, false, cond, List, [], ◌∷◌, ◌&&◌, ◌||◌, not, map, refl, sym, ap, ◌∙◌, Option, Some, None, is_some}
+use Rattle.std.specs.FinMap as fin
+use Rattle.std.specs.FinMap.{FinMap, find, IsAntisymmetric}
+use Rattle.std.specs.FinSet as set
+use Rattle.std.specs.Map.{keys_of}
+use Rattle.std.specs.List.{list_any}
+use Rattle.std.specs.BTreeSet.{BTreeSet, contains, IsOrdered, Updates}
+use Rattle.std.specs.Cmp.{IsTotalOrder, eq_by_cmp_equiv}
+use Rattle.std.specs.Ordering.{eq_by_cmp}
+use Rattle.std.specs.List.Sorted.{IsStrictlySortedBy}
+use Rattle.std.specs.declared.cmp.Ordering.{Ordering}
+use Rattle.plain_model.specs.Refusing.{members, with_nothing}
+use Rattle.plain_map.specs.Tables.{keys_in}
+use Rattle.plain_map.proofs.TableLaws.{all_entries}
+
+module _ {K : Type 0} where
+  keys_of-with_nothing : (ks : List K) → keys_of (with_nothing ks) ≡ ks
+  keys_of-with_nothing [] = refl
+  keys_of-with_nothing (k ∷ ks) = ap (λ xs. k ∷ xs) (keys_of-with_nothing ks)
+
+-- of nothing but its being there, an option is known by that
+there : (a b : Option (Unit {0})) → is_some a ≡ is_some b → a ≡ b
+there None None h = refl
+there None (Some u) h = cc
+there (Some u) None h = cc
+there (Some u) (Some v) h = refl
+
+module _ {K : Type 0} (R : K → K → Ordering) where
+  found : (ks : List K) (q : K) → is_some (find R q (with_nothing ks)) ≡ list_any (eq_by_cmp R q) ks
+  found [] q = refl
+  found (k ∷ ks) q = elim (eq_by_cmp R q k) as (λ b. is_some (cond b (Some tt) (find R q (with_nothing ks))) ≡ (b || list_any (eq_by_cmp R q) ks)) [ true ↦ refl | false ↦ found ks q ]
+
+module _ {K : Type 0} {R : K → K → Ordering} (o : IsTotalOrder R) where
+  -- a look-up
+  pub contains-keys_in : (s : BTreeSet K) (q : K) → set.contains (keys_in R s) q ≡ contains R s q
+  unfolding keys_in
+  contains-keys_in s q = set.contains-from_list o s.keys q
+
+  same_members : IsAntisymmetric R → (ks ls : List K) → ((q : K) → list_any (eq_by_cmp R q) ks ≡ list_any (eq_by_cmp R q) ls) → fin.from_entries {R = R} (with_nothing ks) ≡ fin.from_entries {R = R} (with_nothing ls)
+  same_members same ks ls alike = fin.same_map o same _ _ (λ q. fin.get-from_entries o (with_nothing ks) q ∙ there _ _ (found R ks q ∙ alike q ∙ sym (found R ls q)) ∙ sym (fin.get-from_entries o (with_nothing ls) q))
+
+  -- its walk
+  pub members-keys_in : IsAntisymmetric R → (s : BTreeSet K) → IsOrdered R s → members (keys_in R s) ≡ s.keys
+  unfolding keys_in
+  members-keys_in same s h =
+      ap fin.keys (same_members same (set.items (set.from_list {R = R} s.keys)) s.keys (λ q. sym (set.contains-items (set.from_list s.keys) q) ∙ set.contains-from_list o s.keys q))
+      ∙ ap keys_of (all_entries o (with_nothing s.keys) (let e : IsStrictlySortedBy R (keys_of (with_nothing s.keys)) = rw (keys_of-with_nothing s.keys) h in e))
+      ∙ keys_of-with_nothing s.keys
