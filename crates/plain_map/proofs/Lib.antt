@@ -1,4 +1,5 @@
 pub mod TableLaws
 pub mod SetLaws
 pub mod TableRules
-pub mod Exchanging
+pub mod ExchangeLaws
+pub mod LinkLaws

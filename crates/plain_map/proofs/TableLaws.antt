@@ -3,7 +3,7 @@ use Rattle.std.proofs.Common.{◌≡◌, ℕ, Bool, true, false, cond, List, [],
 use Rattle.std.specs.FinMap as fin
 use Rattle.std.specs.FinMap.{FinMap, find, put, IsAntisymmetric}
 use Rattle.std.specs.Map.{lookup, keys_of, values_of}
-use Rattle.std.specs.BTreeMap.{BTreeMap, get, IsOrdered, Updates, is_at}
+use Rattle.std.specs.BTreeMap.{BTreeMap, get, IsOrdered, IsUnchanged, Updates, is_at}
 use Rattle.std.specs.Cmp.{IsTotalOrder, eq_by_cmp_equiv}
 use Rattle.std.specs.Ordering.{eq_by_cmp, is_eq}
 use Rattle.std.specs.List.Sorted.{IsStrictlySortedBy}
@@ -44,6 +44,11 @@ module _ {K X : Type 0} {R : K → K → Ordering} (o : IsTotalOrder R) where
   pub entries-table : (m : BTreeMap K X) → IsOrdered R m → fin.entries (table R m) ≡ m.entries
   unfolding table
   entries-table m h = all_entries m.entries h
+
+  -- the same entries
+  pub same-table : (m n : BTreeMap K X) → IsUnchanged m n → table R n ≡ table R m
+  unfolding table
+  same-table m n h = ap (λ es. fin.from_entries {R = R} es) h
 
   -- what a key gets
   pub insert-table : IsAntisymmetric R → (m n : BTreeMap K X) (k : K) (v : X) → Updates R m n k (Some v) → table R n ≡ fin.insert (table R m) k v

@@ -1,9 +1,11 @@
 -- The plain state that the program's tables are.
-use Rattle.std.specs.Prelude.{ℕ, Option, option_map}
+use Rattle.std.specs.Prelude.{ℕ, false, ◌&&◌, Option, option_map, if◌then◌else◌}
 use Rattle.std.specs.Ordering.{nat_cmp, ordering_then}
 use Rattle.std.specs.BTreeMap.{BTreeMap, get}
 use Rattle.std.specs.declared.cmp.Ordering.{Ordering}
 use Rattle.cell_world.specs.ByteOrder.{byte_cmp}
+use Rattle.cell_world.specs.Keys.{same, contains}
+use Rattle.cell_world.specs.declared.operations.Piece.{Piece}
 use Rattle.cell_world.specs.Orders.{pair_cmp, row_cmp}
 use Rattle.cell_world.specs.Plain.{PlainState, Connection, Connections, holds_nothing}
 use Rattle.plain_map.specs.Tables.{table, keys_in}
@@ -16,6 +18,10 @@ link_cmp a b = ordering_then (nat_cmp a.0 b.0) (nat_cmp a.1 b.1)
 
 abbrev pub connection : Link → Connection
 connection link = record { map = link.map; key = link.key; location = link.location; live = link.live }
+
+-- the connection after the mapping went offline: ended, if its key is one of the mapping
+abbrev pub ended_link : Piece → Link → Link
+ended_link piece link = if same piece.map link.map && contains piece.span link.key then record link { live = false } else link
 
 -- a session's connection, if it has one
 abbrev pub link_shown : Option Link → Option Connection

@@ -1,5 +1,5 @@
 //! What a command's words name.
-ghost use Rattle.std.specs.Prelude.{◌≡◌, ◌&&◌, find};
+ghost use Rattle.std.specs.Prelude.{◌≡◌, ◌&&◌, find, option_map};
 ghost use Rattle.std.specs.FinMap as map;
 ghost use Rattle.cell_world.specs.Keys.{same, end_of};
 ghost use Rattle.cell_world.specs.KeyForms.{normal_of, is_normal};
@@ -42,6 +42,13 @@ fn range_between(low: Option<NormKey>, high: Option<High>) -> Option<Span>
     ensures { result ≡ range_between low high }
 {
     Some(Span::Range(low?, high?))
+}
+
+/// The span of a key.
+pub fn point_at(key: Option<NormKey>) -> Option<Span>
+    ensures { result ≡ option_map Span.Point key }
+{
+    Some(Span::Point(key?))
 }
 
 /// Where a mapping is.

@@ -1,5 +1,5 @@
 -- Mappings that replace others, one by one.
-use Rattle.std.proofs.Common.{◌≡◌, ℕ, ◌+◌, ◌<◌, List, [], ◌∷◌, length, get_or, drop, refl, sym, ap, ◌∙◌, Option, Some, None, Result, Ok, Err, OnOk, false, add-one, suc}
+use Rattle.std.proofs.Common.{◌≡◌, ℕ, ◌+◌, ◌<◌, List, [], ◌∷◌, length, get_or, drop, refl, sym, ap, ◌∙◌, Option, Some, None, Result, Ok, Err, OnOk, OnErr, IfOk, true, false, add-one, suc}
 use Rattle.std.proofs.Math.Seq.{drop-cons}
 use Rattle.std.specs.FinMap as fin
 use Rattle.std.specs.List.{AllZip}
@@ -22,6 +22,16 @@ pub of_ok : {T E : Type 0} {P : Type 0} (r : Result T E) → false ≡ is_err r 
 of_ok (Ok x) e h = h
 of_ok (Err y) e h = cc
 
+-- what follows an answer that is an error
+pub of_err : {T E : Type 0} {P : Type 0} (r : Result T E) → true ≡ is_err r → OnErr r P → P
+of_err (Ok x) e h = cc
+of_err (Err y) e h = h
+
+-- what holds of a value holds of the value of an answer
+pub if_ok : {T E : Type 0} (P Q : T → Type 0) → ((v : T) → P v → Q v) → (r : Result T E) → IfOk r P → IfOk r Q
+if_ok P Q f (Ok v) h = f v h
+if_ok P Q f (Err e) h = tt
+
 -- a copy is the same finite map
 pub table-clone : {K X : Type 0} (R : K → K → Ordering) (C : K → K → Type 0) (D : X → X → Type 0) → ((x y : K) → C x y → y ≡ x) → ((x y : X) → D x y → y ≡ x) → (m n : BTreeMap K X) → IsClone C D m n → table R n ≡ table R m
 unfolding table
@@ -30,16 +40,18 @@ table-clone R C D keys values m n h = ap (λ es. fin.from_entries {R = R} es) (e
 drop_here : {A : Type 0} (xs : List A) (i : ℕ) (x : A) → i < length xs → x ≡ get_or xs i x → drop i xs ≡ x ∷ drop (i + 1) xs
 drop_here xs i x h e = rw add-one (drop-cons xs i x h ∙ ap (λ y. y ∷ drop (suc i) xs) (sym e))
 
-module _ (m n : BTreeMap (Text × Text) Piece) (pieces : List Piece) (i : ℕ) (x : Piece) (low : Text) (within : i < length pieces) (is : x ≡ get_or pieces i x) (own : low ≡ low_of x.span) where
+module _ (m n : BTreeMap (Text × Text) Piece) (x : Piece) (low : Text) (own : low ≡ low_of x.span) where
   key : ◌≡◌ {A = Text × Text} (x.map, low) (piece_key x)
   key = ap (λ (t : Text). (x.map, t)) own
 
-  -- one of the old ones goes
-  pub one_less : Updates pair_cmp m n (x.map, low) None → without (table pair_cmp m) (drop i pieces) ≡ without (table pair_cmp n) (drop (i + 1) pieces)
-  one_less u = ap (without (table pair_cmp m)) (drop_here pieces i x within is)
-      ∙ ap (λ (t : Mappings). without t (drop (i + 1) pieces)) (ap (fin.remove (table pair_cmp m)) (sym key) ∙ sym (remove-table pairs_total exact_text_pairs m n (x.map, low) u))
+  -- a mapping goes
+  pub one_less : Updates pair_cmp m n (x.map, low) None → table pair_cmp n ≡ fin.remove (table pair_cmp m) (piece_key x)
+  one_less u = remove-table pairs_total exact_text_pairs m n (x.map, low) u ∙ ap (fin.remove (table pair_cmp m)) key
 
-  -- one of the new ones comes
-  pub one_more : Updates pair_cmp m n (x.map, low) (Some x) → with_all (table pair_cmp m) (drop i pieces) ≡ with_all (table pair_cmp n) (drop (i + 1) pieces)
-  one_more u = ap (with_all (table pair_cmp m)) (drop_here pieces i x within is)
-      ∙ ap (λ (t : Mappings). with_all t (drop (i + 1) pieces)) (ap (λ (k : Text × Text). fin.insert (table pair_cmp m) k x) (sym key) ∙ sym (insert-table pairs_total exact_text_pairs m n (x.map, low) x u))
+  -- a mapping comes
+  pub one_more : Updates pair_cmp m n (x.map, low) (Some x) → table pair_cmp n ≡ fin.insert (table pair_cmp m) (piece_key x) x
+  one_more u = insert-table pairs_total exact_text_pairs m n (x.map, low) x u ∙ ap (λ (k : Text × Text). fin.insert (table pair_cmp m) k x) key
+
+  -- the next of a list of mappings comes
+  pub put_next : (news : List Piece) (i : ℕ) → i < length news → x ≡ get_or news i x → Updates pair_cmp m n (x.map, low) (Some x) → with_all (table pair_cmp m) (drop i news) ≡ with_all (table pair_cmp n) (drop (i + 1) news)
+  put_next news i within is u = ap (with_all (table pair_cmp m)) (drop_here news i x within is) ∙ ap (λ (t : Mappings). with_all t (drop (i + 1) news)) (sym (one_more u))
