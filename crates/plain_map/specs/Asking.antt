@@ -17,6 +17,10 @@ abbrev pub Accepts : PlainState → ℕ → Command → PlainState → Result Re
 Accepts s session command t (Ok reply) = (held_then : Held) → accepted held_then s session command ≡ (t, reply)
 Accepts s session command t (Err memory) = t ≡ s
 
+-- The command, which isn't refused, is answered as in the plain step, and changes nothing.
+abbrev pub Answers : PlainState → ℕ → Command → Result Reply Memory → Type 0
+Answers s session command result = Accepts s session command s result
+
 -- `peek`, recovery and jobs are not built.
 abbrev pub is_built : Command → Bool
 is_built (command.Map name kind type) = true

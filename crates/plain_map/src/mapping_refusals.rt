@@ -1,16 +1,10 @@
-//! The command table: of each command the refusals in order.
-#![tactic(auto)]
-
-ghost use Rattle.std.specs.Prelude.{◌≡◌, ℕ, Some, None};
+//! The refusals of mappings, in order.
+ghost use Rattle.std.specs.Prelude.{◌≡◌, ℕ};
+ghost use Rattle.cell_world.specs.declared.cells.Token.{Token as AToken};
 ghost use Rattle.plain_model.specs.Refusing.{checks, first_refusal};
 ghost use Rattle.plain_map.specs.State.{state_of};
-ghost use Rattle.cell_world.specs.declared.cells.KeyType.{KeyType as AType};
-ghost use Rattle.cell_world.specs.declared.cells.MapKind.{MapKind as AKind};
 
-use crate::checks::{
-    bad_key, bad_range, bad_split, ended, first, has_token, locked, no_connection, no_mapping,
-    not_locked, not_offline, number_in_use, owner_offline, same_shard, same_status_already,
-};
+use crate::checks::{bad_key, bad_range, bad_split, first, has_token, locked, no_mapping, not_locked, not_offline, same_shard, same_status_already};
 use crate::named::{location_of_mapping, point_at};
 use crate::state::PlainMap;
 use cell_world::cells::{MapKind, Status, Token};
@@ -21,55 +15,6 @@ use plain_model::commands::{Command, HighText};
 use plain_model::replies::Refusal;
 
 impl PlainMap {
-    pub fn map_refusal(&self, name: &Name) -> Option<Refusal>
-        ensures { (i : ℕ) (kind : AKind) (type : AType) → result ≡ first_refusal (checks (state_of self.now) i (Command.Map name.now kind type)) }
-    {
-        first(&[self.map_exists(name), self.full_of_maps()])
-    }
-
-    pub fn unmap_refusal(&self, name: &Name) -> Option<Refusal>
-        ensures { (i : ℕ) → result ≡ first_refusal (checks (state_of self.now) i (Command.Unmap name.now)) }
-    {
-        first(&[self.no_map(name), self.map_in_use(name)])
-    }
-
-    pub fn shard_refusal(&self, name: &Name, location: &Location) -> Option<Refusal>
-        ensures { (i : ℕ) → result ≡ first_refusal (checks (state_of self.now) i (Command.Shard name.now location.now)) }
-    {
-        let at = Some(*location);
-        first(&[
-            self.no_map(name),
-            self.no_location(location),
-            self.detached(&at),
-            self.unresolved(&at),
-            self.shard_exists(name, location),
-        ])
-    }
-
-    pub fn unshard_refusal(&self, name: &Name, location: &Location) -> Option<Refusal>
-        ensures { (i : ℕ) → result ≡ first_refusal (checks (state_of self.now) i (Command.Unshard name.now location.now)) }
-    {
-        let at = Some(*location);
-        first(&[
-            self.no_map(name),
-            self.no_location(location),
-            self.not_a_shard(name, location),
-            self.detached(&at),
-            self.unresolved(&at),
-            self.shard_in_use(name, location),
-        ])
-    }
-
-    pub fn table_refusal(&self, name: &Name, table: &Name) -> Option<Refusal>
-        ensures { (i : ℕ) → result ≡ first_refusal (checks (state_of self.now) i (Command.Table name.now table.now)) }
-    {
-        first(&[
-            self.no_map(name),
-            self.table_exists(name, table),
-            self.full_of_tables(name),
-        ])
-    }
-
     pub fn add_refusal(&self, name: &Name, low: &KeyText, high: &HighText, location: &Location) -> Option<Refusal>
         ensures { (i : ℕ) → result ≡ first_refusal (checks (state_of self.now) i (Command.Add name.now low.now high.now location.now)) }
     {
@@ -138,6 +83,22 @@ impl PlainMap {
         ])
     }
 
+    pub fn online_refusal(&self, name: &Name, key: &KeyText, token: &Option<Token>) -> Option<Refusal>
+        ensures { (i : ℕ) → result ≡ first_refusal (checks (state_of self.now) i (Command.Online name.now key.now token.now)) }
+    {
+        let piece = self.mapping_of(name, key);
+        let at = location_of_mapping(&piece);
+        first(&[
+            self.no_map(name),
+            bad_key(&self.key_in(name, key)),
+            no_mapping(&piece),
+            self.detached(&at),
+            self.unresolved(&at),
+            locked(token, &piece),
+            same_status_already(Status::Online, &piece),
+        ])
+    }
+
     pub fn move_refusal(&self, name: &Name, key: &KeyText, location: &Location, token: &Option<Token>) -> Option<Refusal>
         ensures { (i : ℕ) → result ≡ first_refusal (checks (state_of self.now) i (Command.Move name.now key.now location.now token.now)) }
     {
@@ -158,6 +119,71 @@ impl PlainMap {
             same_shard(location, &piece),
             not_offline(&piece),
             self.rows_present(&piece),
+        ])
+    }
+
+    pub fn split_refusal(&self, name: &Name, key: &KeyText, token: &Option<Token>) -> Option<Refusal>
+        ensures { (i : ℕ) → result ≡ first_refusal (checks (state_of self.now) i (Command.Split name.now key.now token.now)) }
+    {
+        let piece = self.mapping_of(name, key);
+        let at = location_of_mapping(&piece);
+        first(&[
+            self.no_map(name),
+            self.wrong_kind(name, MapKind::Range),
+            bad_key(&self.key_in(name, key)),
+            no_mapping(&piece),
+            self.detached(&at),
+            self.unresolved(&at),
+            locked(token, &piece),
+            bad_split(&self.key_in(name, key), &piece),
+        ])
+    }
+
+    pub fn merge_refusal(&self, name: &Name, key: &KeyText, token: &Option<Token>) -> Option<Refusal>
+        ensures { (i : ℕ) → result ≡ first_refusal (checks (state_of self.now) i (Command.Merge name.now key.now token.now)) }
+    {
+        let piece = self.mapping_of(name, key);
+        let at = location_of_mapping(&piece);
+        first(&[
+            self.no_map(name),
+            self.wrong_kind(name, MapKind::Range),
+            bad_key(&self.key_in(name, key)),
+            no_mapping(&piece),
+            self.detached(&at),
+            self.unresolved(&at),
+            locked(token, &piece),
+            self.not_mergeable(&piece),
+        ])
+    }
+
+    pub fn lock_refusal(&self, name: &Name, key: &KeyText) -> Option<Refusal>
+        ensures { (i : ℕ) (token : AToken) → result ≡ first_refusal (checks (state_of self.now) i (Command.Lock name.now key.now token)) }
+    {
+        let piece = self.mapping_of(name, key);
+        let at = location_of_mapping(&piece);
+        first(&[
+            self.no_map(name),
+            bad_key(&self.key_in(name, key)),
+            no_mapping(&piece),
+            self.detached(&at),
+            self.unresolved(&at),
+            has_token(&piece),
+        ])
+    }
+
+    pub fn unlock_refusal(&self, name: &Name, key: &KeyText, token: Token) -> Option<Refusal>
+        ensures { (i : ℕ) → result ≡ first_refusal (checks (state_of self.now) i (Command.Unlock name.now key.now token)) }
+    {
+        let piece = self.mapping_of(name, key);
+        let at = location_of_mapping(&piece);
+        first(&[
+            self.no_map(name),
+            bad_key(&self.key_in(name, key)),
+            no_mapping(&piece),
+            self.detached(&at),
+            self.unresolved(&at),
+            not_locked(&piece),
+            locked(&Some(token), &piece),
         ])
     }
 }
