@@ -3,3 +3,4 @@ pub mod SetLaws
 pub mod TableRules
 pub mod ExchangeLaws
 pub mod LinkLaws
+pub mod RowLaws

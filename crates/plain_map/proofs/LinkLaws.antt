@@ -1,5 +1,5 @@
 -- What the table of connections answers after a change.
-use Rattle.std.proofs.Common.{◌≡◌, ℕ, Bool, true, false, ◌&&◌, ◌==◌, cond, if◌then◌else◌, List, map, refl, sym, ap, ◌∙◌, Option, Some, None, option_map}
+use Rattle.std.proofs.Common.{◌≡◌, ℕ, Bool, true, false, ◌&&◌, ◌==◌, cond, if◌then◌else◌, List, [], map, refl, sym, ap, ◌∙◌, Option, Some, None, option_map}
 use Rattle.std.specs.Map.{lookup}
 use Rattle.std.specs.BTreeMap.{BTreeMap, get, Updates, is_at, IsUnchanged}
 use Rattle.std.specs.Ordering.{nat_cmp, ordering_then, is_eq}
@@ -8,7 +8,7 @@ use Rattle.std.specs.declared.cmp.Ordering.{Ordering}
 use Rattle.std.specs.declared.cmp.Ordering.TheVariants.{Less, Equal, Greater}
 use Rattle.std.proofs.lemmas.Map.Made.{lookup-map_values}
 use Rattle.cell_world.specs.Keys.{same, contains}
-use Rattle.cell_world.specs.Plain.{Connection}
+use Rattle.cell_world.specs.Plain.{Connection, nobody}
 use Rattle.cell_world.specs.declared.operations.Piece.{Piece}
 use Rattle.plain_model.specs.Steps.{with_connection, ended_under}
 use Rattle.plain_map.specs.State.{link_cmp, connection, link_shown, connections_of, ended_link}
@@ -51,3 +51,7 @@ link-ended m n piece h = λ j i x. at i x j
   where
     at : (i x : ℕ) → connections_of n i x ≡ ended_under (Some piece) (connections_of m) i x
     at i x = ap (λ es. link_shown (lookup (is_at (link_cmp (i, x))) es)) h ∙ ap link_shown (lookup-map_values (ended_link piece) (is_at (link_cmp (i, x))) m.entries) ∙ shown_ends piece (get link_cmp m (i, x))
+
+-- no connections
+pub link-empty : (m : BTreeMap (ℕ × ℕ) Link) → m.entries ≡ [] → connections_of m ≡ nobody
+link-empty m h = λ j i x. link_shown (lookup (is_at (link_cmp (i, x))) (h j))

@@ -79,6 +79,11 @@ module _ {K : Type 0} {R : K → K → Ordering} (o : IsTotalOrder R) where
   pub retain-keys_in : IsAntisymmetric R → (s n : BTreeSet K) (p : K → Bool) → n.keys ≡ filter p s.keys → keys_in R n ≡ set.retain (keys_in R s) p
   retain-keys_in same s n p kept = set.same_set o same (keys_in R n) (set.retain (keys_in R s) p)
       (λ q. contains-keys_in n q ∙ ap (list_any (eq_by_cmp R q)) kept
-        ∙ any-filter_same (eq_by_cmp R q) p (p q) (λ k t. ap p (sym (tied_is same q k t))) s.keys
-        ∙ swap_and (p q) _ ∙ ap (λ b. b && p q) (sym (contains-keys_in s q))
-        ∙ sym (set.contains-retain (keys_in R s) p q (λ x t. ap p (sym (same q x t)))))
+      ∙ any-filter_same (eq_by_cmp R q) p (p q) (λ k t. ap p (sym (tied_is same q k t))) s.keys
+      ∙ swap_and (p q) _ ∙ ap (λ b. b && p q) (sym (contains-keys_in s q))
+      ∙ sym (set.contains-retain (keys_in R s) p q (λ x t. ap p (sym (same q x t)))))
+
+-- no keys
+pub keys_in-empty : {K : Type 0} (R : K → K → Ordering) (s : BTreeSet K) → s.keys ≡ [] → keys_in R s ≡ set.empty
+unfolding keys_in
+keys_in-empty R s h = ap (λ ks. set.from_list {R = R} ks) h

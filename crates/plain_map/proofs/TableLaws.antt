@@ -59,3 +59,8 @@ module _ {K X : Type 0} {R : K → K → Ordering} (o : IsTotalOrder R) where
   pub remove-table : IsAntisymmetric R → (m n : BTreeMap K X) (k : K) → Updates R m n k None → table R n ≡ fin.remove (table R m) k
   remove-table same m n k u = fin.same_map o same (table R n) (fin.remove (table R m) k)
       (λ q. get-table n q ∙ u.0 q ∙ (λ i. cond ((eq_by_cmp_equiv o).symm k q i) None (sym (get-table m q) i)) ∙ sym (fin.get-remove o (table R m) k q))
+
+-- no entries
+pub table-empty : {K X : Type 0} (R : K → K → Ordering) (m : BTreeMap K X) → m.entries ≡ [] → table R m ≡ fin.empty
+unfolding table
+table-empty R m h = ap (λ es. fin.from_entries {R = R} es) h

@@ -1,5 +1,8 @@
 -- The plain state that the program's tables are.
-use Rattle.std.specs.Prelude.{ℕ, false, ◌&&◌, Option, option_map, if◌then◌else◌}
+use Rattle.std.specs.Prelude.{ℕ, false, ◌&&◌, List, Option, option_map, if◌then◌else◌}
+use Rattle.std.specs.FinMap as map
+use Rattle.std.specs.FinSet as set
+use Rattle.cell_world.specs.Texts.{Text}
 use Rattle.std.specs.Ordering.{nat_cmp, ordering_then}
 use Rattle.std.specs.BTreeMap.{BTreeMap, get}
 use Rattle.std.specs.declared.cmp.Ordering.{Ordering}
@@ -7,7 +10,7 @@ use Rattle.cell_world.specs.ByteOrder.{byte_cmp}
 use Rattle.cell_world.specs.Keys.{same, contains}
 use Rattle.cell_world.specs.declared.operations.Piece.{Piece}
 use Rattle.cell_world.specs.Orders.{pair_cmp, row_cmp}
-use Rattle.cell_world.specs.Plain.{PlainState, Connection, Connections, holds_nothing}
+use Rattle.cell_world.specs.Plain.{PlainState, Connection, Connections, holds_nothing, nobody}
 use Rattle.plain_map.specs.Tables.{table, keys_in}
 use Rattle.plain_map.specs.declared.state.PlainMap.{PlainMap}
 use Rattle.plain_map.specs.declared.state.Link.{Link}
@@ -45,4 +48,20 @@ state_of p = record {
   rows = table row_cmp p.rows;
   held = λ location. holds_nothing;
   connections = connections_of p.links;
+}
+
+-- Nothing stands.
+abbrev pub nothing_yet : List Text → PlainState
+nothing_yet locations = record {
+  locations = locations;
+  maps = map.empty;
+  shards = set.empty;
+  tables = set.empty;
+  mappings = map.empty;
+  jobs = map.empty;
+  next_job = 1;
+  away = map.empty;
+  rows = map.empty;
+  held = λ location. holds_nothing;
+  connections = nobody;
 }

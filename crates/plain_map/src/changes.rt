@@ -17,7 +17,12 @@ use cell_world::names::Name;
 use cell_world::operations::Piece;
 use std::collections::{BTreeMap, BTreeSet};
 
-pub fn put_map(maps: &mut BTreeMap<Name, (MapKind, KeyType)>, name: &Name, kind: MapKind, keys: KeyType) -> Result<(), Memory>
+pub fn put_map(
+    maps: &mut BTreeMap<Name, (MapKind, KeyType)>,
+    name: &Name,
+    kind: MapKind,
+    keys: KeyType,
+) -> Result<(), Memory>
     ensures ok { OnOk result (table byte_cmp maps.new ≡ map.insert (table byte_cmp maps.old) name.now (kind, keys)) }
     ensures err { OnErr result (table byte_cmp maps.new ≡ table byte_cmp maps.old) }
 {
@@ -33,7 +38,11 @@ pub fn drop_map(maps: &mut BTreeMap<Name, (MapKind, KeyType)>, name: &Name)
     maps.remove(name);
 }
 
-pub fn put_shard(shards: &mut BTreeSet<(Name, Location)>, name: &Name, location: &Location) -> Result<(), Memory>
+pub fn put_shard(
+    shards: &mut BTreeSet<(Name, Location)>,
+    name: &Name,
+    location: &Location,
+) -> Result<(), Memory>
     ensures ok { OnOk result (keys_in pair_cmp shards.new ≡ set.insert (keys_in pair_cmp shards.old) (name.now, location.now)) }
     ensures err { OnErr result (keys_in pair_cmp shards.new ≡ keys_in pair_cmp shards.old) }
 {
@@ -49,7 +58,11 @@ pub fn drop_shard(shards: &mut BTreeSet<(Name, Location)>, name: &Name, location
     shards.remove(&(*name, *location));
 }
 
-pub fn put_table(tables: &mut BTreeSet<(Name, Name)>, name: &Name, table: &Name) -> Result<(), Memory>
+pub fn put_table(
+    tables: &mut BTreeSet<(Name, Name)>,
+    name: &Name,
+    table: &Name,
+) -> Result<(), Memory>
     ensures ok { OnOk result (keys_in pair_cmp tables.new ≡ set.insert (keys_in pair_cmp tables.old) (name.now, table.now)) }
     ensures err { OnErr result (keys_in pair_cmp tables.new ≡ keys_in pair_cmp tables.old) }
 {
@@ -66,7 +79,11 @@ pub fn drop_tables(tables: &mut BTreeSet<(Name, Name)>, name: &Name)
     tables.retain(|table| !name.cmp(&table.0).is_eq());
 }
 
-pub fn put_row(rows: &mut BTreeMap<RowName, RowBytes>, row: &RowName, bytes: RowBytes) -> Result<(), Memory>
+pub fn put_row(
+    rows: &mut BTreeMap<RowName, RowBytes>,
+    row: &RowName,
+    bytes: RowBytes,
+) -> Result<(), Memory>
     ensures ok { OnOk result (table row_cmp rows.new ≡ map.insert (table row_cmp rows.old) row.now bytes) }
     ensures err { OnErr result (table row_cmp rows.new ≡ table row_cmp rows.old) }
 {
@@ -82,7 +99,12 @@ pub fn drop_row(rows: &mut BTreeMap<RowName, RowBytes>, row: &RowName)
     rows.remove(row);
 }
 
-pub fn put_link(links: &mut BTreeMap<(u32, u32), Link>, session: u32, number: u32, link: &Link) -> Result<(), Memory>
+pub fn put_link(
+    links: &mut BTreeMap<(u32, u32), Link>,
+    session: u32,
+    number: u32,
+    link: &Link,
+) -> Result<(), Memory>
     ensures ok { OnOk result (connections_of links.new ≡ with_connection (connections_of links.old) session number (Some (connection link.now))) }
     ensures err { OnErr result (connections_of links.new ≡ connections_of links.old) }
 {

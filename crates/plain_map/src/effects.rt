@@ -53,7 +53,13 @@ impl PlainMap {
         Ok(Reply::Ok)
     }
 
-    pub fn do_add(&mut self, name: &Name, low: &KeyText, high: &HighText, location: &Location) -> Result<Reply, Memory>
+    pub fn do_add(
+        &mut self,
+        name: &Name,
+        low: &KeyText,
+        high: &HighText,
+        location: &Location,
+    ) -> Result<Reply, Memory>
         ensures { (i : ℕ) → Accepts (state_of self.old) i (Command.Add name.now low.now high.now location.now) (state_of self.new) result }
     {
         let range = self.range_in(name, low, high);
@@ -61,7 +67,12 @@ impl PlainMap {
         Ok(Reply::Ok)
     }
 
-    pub fn do_addpoint(&mut self, name: &Name, key: &KeyText, location: &Location) -> Result<Reply, Memory>
+    pub fn do_addpoint(
+        &mut self,
+        name: &Name,
+        key: &KeyText,
+        location: &Location,
+    ) -> Result<Reply, Memory>
         ensures { (i : ℕ) → Accepts (state_of self.old) i (Command.Addpoint name.now key.now location.now) (state_of self.new) result }
     {
         let point = point_at(self.key_in(name, key));
@@ -94,7 +105,12 @@ impl PlainMap {
         Ok(Reply::Ok)
     }
 
-    pub fn do_move(&mut self, name: &Name, key: &KeyText, location: &Location) -> Result<Reply, Memory>
+    pub fn do_move(
+        &mut self,
+        name: &Name,
+        key: &KeyText,
+        location: &Location,
+    ) -> Result<Reply, Memory>
         ensures { (i : ℕ) (token : Option AToken) → Accepts (state_of self.old) i (Command.Move name.now key.now location.now token) (state_of self.new) result }
     {
         let piece = self.mapping_of(name, key);

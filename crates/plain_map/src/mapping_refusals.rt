@@ -4,7 +4,10 @@ ghost use Rattle.cell_world.specs.declared.cells.Token.{Token as AToken};
 ghost use Rattle.plain_model.specs.Refusing.{checks, first_refusal};
 ghost use Rattle.plain_map.specs.State.{state_of};
 
-use crate::checks::{bad_key, bad_range, bad_split, first, has_token, locked, no_mapping, not_locked, not_offline, same_shard, same_status_already};
+use crate::checks::{
+    bad_key, bad_range, bad_split, first, has_token, locked, no_mapping, not_locked, not_offline,
+    same_shard, same_status_already,
+};
 use crate::named::{location_of_mapping, point_at};
 use crate::state::PlainMap;
 use cell_world::cells::{MapKind, Status, Token};
@@ -15,7 +18,13 @@ use plain_model::commands::{Command, HighText};
 use plain_model::replies::Refusal;
 
 impl PlainMap {
-    pub fn add_refusal(&self, name: &Name, low: &KeyText, high: &HighText, location: &Location) -> Option<Refusal>
+    pub fn add_refusal(
+        &self,
+        name: &Name,
+        low: &KeyText,
+        high: &HighText,
+        location: &Location,
+    ) -> Option<Refusal>
         ensures { (i : ℕ) → result ≡ first_refusal (checks (state_of self.now) i (Command.Add name.now low.now high.now location.now)) }
     {
         let range = self.range_in(name, low, high);
@@ -33,7 +42,12 @@ impl PlainMap {
         ])
     }
 
-    pub fn addpoint_refusal(&self, name: &Name, key: &KeyText, location: &Location) -> Option<Refusal>
+    pub fn addpoint_refusal(
+        &self,
+        name: &Name,
+        key: &KeyText,
+        location: &Location,
+    ) -> Option<Refusal>
         ensures { (i : ℕ) → result ≡ first_refusal (checks (state_of self.now) i (Command.Addpoint name.now key.now location.now)) }
     {
         let key = self.key_in(name, key);
@@ -50,7 +64,12 @@ impl PlainMap {
         ])
     }
 
-    pub fn delete_refusal(&self, name: &Name, key: &KeyText, token: &Option<Token>) -> Option<Refusal>
+    pub fn delete_refusal(
+        &self,
+        name: &Name,
+        key: &KeyText,
+        token: &Option<Token>,
+    ) -> Option<Refusal>
         ensures { (i : ℕ) → result ≡ first_refusal (checks (state_of self.now) i (Command.Delete name.now key.now token.now)) }
     {
         let piece = self.mapping_of(name, key);
@@ -67,7 +86,12 @@ impl PlainMap {
         ])
     }
 
-    pub fn offline_refusal(&self, name: &Name, key: &KeyText, token: &Option<Token>) -> Option<Refusal>
+    pub fn offline_refusal(
+        &self,
+        name: &Name,
+        key: &KeyText,
+        token: &Option<Token>,
+    ) -> Option<Refusal>
         ensures { (i : ℕ) → result ≡ first_refusal (checks (state_of self.now) i (Command.Offline name.now key.now token.now)) }
     {
         let piece = self.mapping_of(name, key);
@@ -83,7 +107,12 @@ impl PlainMap {
         ])
     }
 
-    pub fn online_refusal(&self, name: &Name, key: &KeyText, token: &Option<Token>) -> Option<Refusal>
+    pub fn online_refusal(
+        &self,
+        name: &Name,
+        key: &KeyText,
+        token: &Option<Token>,
+    ) -> Option<Refusal>
         ensures { (i : ℕ) → result ≡ first_refusal (checks (state_of self.now) i (Command.Online name.now key.now token.now)) }
     {
         let piece = self.mapping_of(name, key);
@@ -99,7 +128,13 @@ impl PlainMap {
         ])
     }
 
-    pub fn move_refusal(&self, name: &Name, key: &KeyText, location: &Location, token: &Option<Token>) -> Option<Refusal>
+    pub fn move_refusal(
+        &self,
+        name: &Name,
+        key: &KeyText,
+        location: &Location,
+        token: &Option<Token>,
+    ) -> Option<Refusal>
         ensures { (i : ℕ) → result ≡ first_refusal (checks (state_of self.now) i (Command.Move name.now key.now location.now token.now)) }
     {
         let piece = self.mapping_of(name, key);
@@ -122,7 +157,12 @@ impl PlainMap {
         ])
     }
 
-    pub fn split_refusal(&self, name: &Name, key: &KeyText, token: &Option<Token>) -> Option<Refusal>
+    pub fn split_refusal(
+        &self,
+        name: &Name,
+        key: &KeyText,
+        token: &Option<Token>,
+    ) -> Option<Refusal>
         ensures { (i : ℕ) → result ≡ first_refusal (checks (state_of self.now) i (Command.Split name.now key.now token.now)) }
     {
         let piece = self.mapping_of(name, key);
@@ -139,7 +179,12 @@ impl PlainMap {
         ])
     }
 
-    pub fn merge_refusal(&self, name: &Name, key: &KeyText, token: &Option<Token>) -> Option<Refusal>
+    pub fn merge_refusal(
+        &self,
+        name: &Name,
+        key: &KeyText,
+        token: &Option<Token>,
+    ) -> Option<Refusal>
         ensures { (i : ℕ) → result ≡ first_refusal (checks (state_of self.now) i (Command.Merge name.now key.now token.now)) }
     {
         let piece = self.mapping_of(name, key);

@@ -143,7 +143,13 @@ impl PlainMap {
         }
     }
 
-    pub fn do_open(&mut self, session: u32, number: u32, name: &Name, key: &KeyText) -> Result<Reply, Memory>
+    pub fn do_open(
+        &mut self,
+        session: u32,
+        number: u32,
+        name: &Name,
+        key: &KeyText,
+    ) -> Result<Reply, Memory>
         ensures { Accepts (state_of self.old) session (Command.Open number name.now key.now) (state_of self.new) result }
     {
         let piece = self.mapping_of(name, key);
@@ -159,7 +165,14 @@ impl PlainMap {
         Ok(Reply::Ok)
     }
 
-    pub fn do_put(&mut self, session: u32, number: u32, table: &Name, id: u64, bytes: &RowBytes) -> Result<Reply, Memory>
+    pub fn do_put(
+        &mut self,
+        session: u32,
+        number: u32,
+        table: &Name,
+        id: u64,
+        bytes: &RowBytes,
+    ) -> Result<Reply, Memory>
         ensures { Accepts (state_of self.old) session (Command.Put number table.now id bytes.now) (state_of self.new) result }
     {
         let link = self.link_at(session, number);
@@ -181,7 +194,13 @@ impl PlainMap {
         }
     }
 
-    pub fn do_del(&mut self, session: u32, number: u32, table: &Name, id: u64) -> Result<Reply, Memory>
+    pub fn do_del(
+        &mut self,
+        session: u32,
+        number: u32,
+        table: &Name,
+        id: u64,
+    ) -> Result<Reply, Memory>
         ensures { Accepts (state_of self.old) session (Command.Del number table.now id) (state_of self.new) result }
     {
         let link = self.link_at(session, number);

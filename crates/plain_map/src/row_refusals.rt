@@ -4,7 +4,9 @@ ghost use Rattle.cell_world.specs.Texts.{Text};
 ghost use Rattle.plain_model.specs.Refusing.{checks, first_refusal};
 ghost use Rattle.plain_map.specs.State.{state_of};
 
-use crate::checks::{bad_key, ended, first, no_connection, no_mapping, number_in_use, owner_offline};
+use crate::checks::{
+    bad_key, ended, first, no_connection, no_mapping, number_in_use, owner_offline,
+};
 use crate::named::location_of_mapping;
 use crate::state::PlainMap;
 use cell_world::key_texts::KeyText;
@@ -26,20 +28,22 @@ impl PlainMap {
     pub fn list_refusal(&self, name: &Name) -> Option<Refusal>
         ensures { (i : ℕ) → result ≡ first_refusal (checks (state_of self.now) i (Command.List name.now)) }
     {
-        first(&[
-            self.no_map(name),
-        ])
+        first(&[self.no_map(name)])
     }
 
     pub fn shards_refusal(&self, name: &Name) -> Option<Refusal>
         ensures { (i : ℕ) → result ≡ first_refusal (checks (state_of self.now) i (Command.Shards name.now)) }
     {
-        first(&[
-            self.no_map(name),
-        ])
+        first(&[self.no_map(name)])
     }
 
-    pub fn open_refusal(&self, session: u32, number: u32, name: &Name, key: &KeyText) -> Option<Refusal>
+    pub fn open_refusal(
+        &self,
+        session: u32,
+        number: u32,
+        name: &Name,
+        key: &KeyText,
+    ) -> Option<Refusal>
         ensures { result ≡ first_refusal (checks (state_of self.now) session (Command.Open number name.now key.now)) }
     {
         let piece = self.mapping_of(name, key);

@@ -1,6 +1,8 @@
 //! The tables.
+ghost use Rattle.std.specs.Prelude.{◌≡◌, IfOk};
+
 use cell_world::cells::{Away, KeyType, MapKind, RowName};
-use cell_world::items::RowBytes;
+use cell_world::items::{Memory, RowBytes};
 use cell_world::locations::Location;
 use cell_world::names::Name;
 use cell_world::norm_keys::NormKey;
@@ -45,4 +47,30 @@ pub struct PlainMap {
     pub rows: BTreeMap<RowName, RowBytes>,
     /// By session and number.
     pub links: BTreeMap<(u32, u32), Link>,
+}
+
+impl PlainMap {
+    ghost use Rattle.plain_map.specs.State.{state_of, nothing_yet};
+
+    /// Nothing stands, and these locations are known.
+    pub fn empty(alloc: Global, locations: &[Location]) -> Result<PlainMap, Memory>
+        ensures { IfOk result (λ made. state_of made ≡ nothing_yet locations.now) }
+    {
+        let Ok(locations) = Vec::from_slice(alloc, locations) else {
+            return Err(Memory);
+        };
+        Ok(PlainMap {
+            alloc,
+            locations,
+            maps: BTreeMap::new(alloc),
+            shards: BTreeSet::new(alloc),
+            tables: BTreeSet::new(alloc),
+            mappings: BTreeMap::new(alloc),
+            jobs: BTreeMap::new(alloc),
+            next_job: 1,
+            away: BTreeMap::new(alloc),
+            rows: BTreeMap::new(alloc),
+            links: BTreeMap::new(alloc),
+        })
+    }
 }
