@@ -11,6 +11,25 @@ use cell_world::items::Memory;
 use plain_model::commands::Command;
 use plain_model::replies::{Refusal, Reply};
 
+/// Whether the command is built: all are but `peek`, recovery and jobs.
+pub fn is_built(command: &Command) -> bool
+    ensures { result ≡ is_built command.now }
+{
+    match command {
+        Command::Peek(_, _)
+        | Command::Detach(_)
+        | Command::Attach(_)
+        | Command::Differences(_, _)
+        | Command::Resolve(_, _, _, _)
+        | Command::Discard(_)
+        | Command::Clear(_)
+        | Command::Job(_, _, _, _, _)
+        | Command::Step(_)
+        | Command::Run(_) => false,
+        _ => true,
+    }
+}
+
 impl PlainMap {
     /// The refusal that the command gets, if it is refused.
     fn refusal(&self, session: u32, command: &Command) -> Option<Refusal>

@@ -1,7 +1,7 @@
 //! The plain program: it computes the plain step, slowly, over ordered tables, and judges the real one.
 #![tactic(auto)]
 
-mod asking;
+pub mod asking;
 mod changes;
 mod checks;
 mod effects;
@@ -13,4 +13,6 @@ mod row_effects;
 mod row_refusals;
 mod searches;
 pub mod state;
+#[cfg(test)]
+mod tests;
 mod walks;
