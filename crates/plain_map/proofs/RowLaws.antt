@@ -1,7 +1,7 @@
 -- The row of a command that is one of a variant.
 use Rattle.std.proofs.Common.{◌≡◌, ℕ, Option, Result, sym, subst, ap, ◌∙◌}
 use Rattle.cell_world.specs.Plain.{PlainState}
-use Rattle.cell_world.specs.declared.items.Memory.{Memory}
+use Rattle.cell_world.specs.declared.memory.Memory.{Memory}
 use Rattle.plain_model.specs.declared.commands.Command.{Command}
 use Rattle.plain_model.specs.declared.replies.Reply.{Reply}
 use Rattle.plain_model.specs.declared.replies.Refusal.{Refusal}

@@ -1,7 +1,7 @@
 -- What a call does, and which commands are built.
 use Rattle.std.specs.Prelude.{◌≡◌, ℕ, Bool, true, false, Result, Ok, Err}
 use Rattle.cell_world.specs.Plain.{PlainState, Held}
-use Rattle.cell_world.specs.declared.items.Memory.{Memory}
+use Rattle.cell_world.specs.declared.memory.Memory.{Memory}
 use Rattle.plain_model.specs.declared.commands.Command.{Command}
 use Rattle.plain_model.specs.declared.commands.Command.TheVariants as command
 use Rattle.plain_model.specs.declared.replies.Reply.{Reply}

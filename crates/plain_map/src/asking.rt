@@ -7,7 +7,7 @@ ghost use Rattle.plain_map.specs.Asking.{Asks, Accepts, is_built};
 ghost use Rattle.plain_map.specs.State.{state_of};
 
 use crate::state::PlainMap;
-use cell_world::items::Memory;
+use cell_world::memory::Memory;
 use plain_model::commands::Command;
 use plain_model::replies::{Refusal, Reply};
 

@@ -11,8 +11,9 @@ ghost use Rattle.plain_map.specs.State.{connection, connections_of, link_shown, 
 
 use crate::state::Link;
 use cell_world::cells::{KeyType, MapKind, RowName};
-use cell_world::items::{Memory, RowBytes};
+use cell_world::items::RowBytes;
 use cell_world::locations::Location;
+use cell_world::memory::Memory;
 use cell_world::names::Name;
 use cell_world::operations::Piece;
 use std::collections::{BTreeMap, BTreeSet};

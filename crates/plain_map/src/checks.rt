@@ -10,6 +10,7 @@ ghost use Rattle.plain_map.specs.State.{state_of, link_shown};
 use crate::named::{row_of, same_status, same_token};
 use crate::state::{Link, PlainMap};
 use cell_world::cells::{Away, MapKind, Status, Token};
+use cell_world::limits::{MOST_MAPS, MOST_TABLES};
 use cell_world::locations::Location;
 use cell_world::names::Name;
 use cell_world::norm_keys::NormKey;
@@ -351,17 +352,17 @@ impl PlainMap {
         (holds, Refusal::Absent)
     }
 
-    /// 64 maps stand.
+    /// As many maps stand as may.
     pub fn full_of_maps(&self) -> Check
         ensures { result ≡ full_of_maps (state_of self.now) }
     {
-        (self.maps.len() >= 64, Refusal::Full)
+        (self.maps.len() >= MOST_MAPS, Refusal::Full)
     }
 
-    /// The map has 16 tables.
+    /// The map has as many tables as it may.
     pub fn full_of_tables(&self, name: &Name) -> Check
         ensures { result ≡ full_of_tables (state_of self.now) name.now }
     {
-        (self.table_count(name) >= 16, Refusal::Full)
+        (self.table_count(name) >= MOST_TABLES, Refusal::Full)
     }
 }

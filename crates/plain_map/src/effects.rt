@@ -9,9 +9,9 @@ use crate::exchanges::{added, cut_at, removed, with_location, with_status, with_
 use crate::named::point_at;
 use crate::state::PlainMap;
 use cell_world::cells::{KeyType, MapKind, Status, Token};
-use cell_world::items::Memory;
 use cell_world::key_texts::KeyText;
 use cell_world::locations::Location;
+use cell_world::memory::Memory;
 use cell_world::names::Name;
 use plain_model::commands::{Command, HighText};
 use plain_model::replies::Reply;

@@ -14,8 +14,8 @@ ghost use Rattle.cell_world.specs.declared.spans.High.TheVariants.{At};
 
 use crate::state::{Mappings, PlainMap};
 use cell_world::cells::{Status, Token};
-use cell_world::items::Memory;
 use cell_world::locations::Location;
+use cell_world::memory::Memory;
 use cell_world::names::Name;
 use cell_world::norm_keys::NormKey;
 use cell_world::operations::{Piece, Pieces};

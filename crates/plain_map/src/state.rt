@@ -2,8 +2,9 @@
 ghost use Rattle.std.specs.Prelude.{◌≡◌, IfOk};
 
 use cell_world::cells::{Away, KeyType, MapKind, RowName};
-use cell_world::items::{Memory, RowBytes};
+use cell_world::items::RowBytes;
 use cell_world::locations::Location;
+use cell_world::memory::Memory;
 use cell_world::names::Name;
 use cell_world::norm_keys::NormKey;
 use cell_world::operations::{JobRow, Piece};

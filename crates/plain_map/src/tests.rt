@@ -2,9 +2,10 @@
 use crate::asking::is_built;
 use crate::state::PlainMap;
 use cell_world::cells::{KeyType, MapKind, Status, Token};
-use cell_world::items::{Memory, RowBytes};
+use cell_world::items::RowBytes;
 use cell_world::key_texts::KeyText;
 use cell_world::locations::Location;
+use cell_world::memory::Memory;
 use cell_world::names::Name;
 use cell_world::norm_keys::NormKey;
 use cell_world::operations::Piece;
