@@ -11,14 +11,14 @@ use cell_world::norm_keys::NormKey;
 use cell_world::operations::Piece;
 use cell_world::spans::{High, Span};
 use command_scripts::Script;
-use key_space::keys::{Key, key_of};
+use key_space::keys::key_of;
 use key_space::reading::read_key;
-use key_space::values::Guid;
 use key_space::writing::write_key;
 use plain_model::commands::{Command, HighText};
 use plain_model::replies::{Refusal, Reply};
 use std::alloc::Global;
 use std::test::Fail;
+use uuid::Uuid;
 
 /// A word that doesn't read, or want of memory.
 #[derive(Debug, Drop)]
@@ -50,12 +50,9 @@ fn number(word: &str) -> Result<u32, Bad> {
 }
 
 fn token(word: &str) -> Result<Token, Bad> {
-    if word.len() > 64 {
-        return Err(Bad);
-    }
-    match read_key(KeyType::Guid, word.as_bytes()) {
-        Ok(Key::Guid(guid)) => Ok(Token(u128::from_be_bytes(guid.bytes()))),
-        _ => Err(Bad),
+    match Uuid::try_parse_ascii(word.as_bytes()) {
+        Ok(id) => Ok(Token(u128::from_be_bytes(id.into_bytes()))),
+        Err(_) => Err(Bad),
     }
 }
 
@@ -225,16 +222,12 @@ fn push(out: &mut Vec<u8>, text: &[u8]) -> Result<(), Bad> {
     out.extend_from_slice(text).map_err(|_| Bad)
 }
 
-fn push_key(out: &mut Vec<u8>, alloc: Global, key: &Key) -> Result<(), Bad> {
-    match write_key(alloc, key) {
-        Ok(text) => push(out, text.as_slice()),
-        Err(_) => Err(Bad),
-    }
-}
-
 fn push_form(out: &mut Vec<u8>, alloc: Global, keys: KeyType, form: &NormKey) -> Result<(), Bad> {
     match key_of(keys, form) {
-        Some(key) => push_key(out, alloc, &key),
+        Some(key) => match write_key(alloc, &key) {
+            Ok(text) => push(out, text.as_slice()),
+            Err(_) => Err(Bad),
+        },
         None => Err(Bad),
     }
 }
@@ -251,6 +244,13 @@ fn push_span(out: &mut Vec<u8>, alloc: Global, keys: KeyType, span: &Span) -> Re
     }
 }
 
+fn push_token(out: &mut Vec<u8>, token: &Token) -> Result<(), Bad> {
+    let mut buffer = Uuid::encode_buffer();
+    let id = Uuid::from_u128(token.0).hyphenated();
+    push(out, b" ")?;
+    push(out, id.encode_lower(&mut buffer).as_bytes())
+}
+
 fn push_mapping(out: &mut Vec<u8>, alloc: Global, keys: KeyType, piece: &Piece) -> Result<(), Bad> {
     push_span(out, alloc, keys, &piece.span)?;
     push(out, b" ")?;
@@ -263,8 +263,7 @@ fn push_mapping(out: &mut Vec<u8>, alloc: Global, keys: KeyType, piece: &Piece) 
         },
     )?;
     if let Some(token) = &piece.token {
-        push(out, b" ")?;
-        push_key(out, alloc, &Key::Guid(Guid::of(&token.0.to_be_bytes())))?;
+        push_token(out, token)?;
     }
     push(out, b"\n")
 }
