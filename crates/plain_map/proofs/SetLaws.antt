@@ -13,7 +13,7 @@ use Rattle.std.specs.Cmp.{IsTotalOrder, eq_by_cmp_equiv}
 use Rattle.std.specs.Ordering.{eq_by_cmp}
 use Rattle.std.specs.List.Sorted.{IsStrictlySortedBy}
 use Rattle.std.specs.declared.cmp.Ordering.{Ordering}
-use Rattle.plain_model.specs.Refusing.{members, with_nothing}
+use Rattle.cell_world.specs.Members.{members, with_nothing}
 use Rattle.plain_map.specs.Tables.{keys_in}
 use Rattle.plain_map.proofs.TableLaws.{all_entries}
 

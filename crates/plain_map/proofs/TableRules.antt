@@ -12,7 +12,7 @@ use Rattle.cell_world.specs.ByteOrder.{byte_cmp}
 use Rattle.cell_world.specs.Orders.{pair_cmp, row_cmp}
 use Rattle.cell_world.specs.declared.cells.RowName.{RowName}
 use Rattle.cell_world.proofs.OrderLaws.{pairs_total, rows_total, exact_texts, exact_text_pairs, exact_rows}
-use Rattle.plain_model.specs.Refusing.{members}
+use Rattle.cell_world.specs.Members.{members}
 use Rattle.plain_map.specs.Tables.{table, keys_in}
 use Rattle.plain_map.proofs.TableLaws.{get-table, entries-table, insert-table, remove-table}
 use Rattle.plain_map.proofs.SetLaws.{contains-keys_in, members-keys_in}

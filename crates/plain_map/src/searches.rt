@@ -3,7 +3,8 @@ ghost use Rattle.std.specs.Prelude.{◌≡◌, ◌&&◌, length, filter};
 ghost use Rattle.std.specs.List.{list_any};
 ghost use Rattle.std.specs.FinMap as map;
 ghost use Rattle.cell_world.specs.Keys.{same, contains};
-ghost use Rattle.plain_model.specs.Refusing.{members, overlaps_in};
+ghost use Rattle.cell_world.specs.Members.{members};
+ghost use Rattle.plain_model.specs.Refusing.{overlaps_in};
 ghost use Rattle.plain_map.specs.State.{state_of};
 
 use crate::state::PlainMap;

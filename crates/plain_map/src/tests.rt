@@ -20,11 +20,8 @@ use std::alloc::Global;
 use std::test::Fail;
 use uuid::Uuid;
 
-/// A word that doesn't read, or want of memory.
 #[derive(Debug, Drop)]
 struct Bad;
-
-// ---- words
 
 fn name(word: &str) -> Result<Name, Bad> {
     Name::read(word.as_bytes()).ok_or(Bad)
@@ -92,8 +89,6 @@ fn key_type(word: &str) -> Result<KeyType, Bad> {
         _ => Err(Bad),
     }
 }
-
-// ---- commands
 
 fn map_command(words: &[&str]) -> Result<Option<Command>, Bad> {
     Ok(Some(match words {
@@ -182,8 +177,6 @@ fn command(alloc: Global, words: &[&str]) -> Result<Command, Bad> {
     }
     row_command(alloc, words)?.ok_or(Bad)
 }
-
-// ---- lines
 
 fn refusal_text(refusal: Refusal) -> &'static str {
     match refusal {
@@ -332,8 +325,6 @@ fn push_reply(out: &mut Vec<u8>, alloc: Global, reply: &Reply) -> Result<(), Bad
         _ => Err(Bad),
     }
 }
-
-// ---- scripts
 
 fn empty(alloc: Global) -> Result<PlainMap, Bad> {
     let locations = [location("s/a")?, location("s/b")?, location("s/c")?];

@@ -11,7 +11,8 @@ ghost use Rattle.cell_world.specs.Plain.{is_location_of};
 ghost use Rattle.cell_world.specs.declared.cells.RowName.{RowName as ARow};
 ghost use Rattle.cell_world.specs.declared.operations.Piece.{Piece as APiece};
 ghost use Rattle.cell_world.specs.declared.operations.JobRow.{JobRow as AJob};
-ghost use Rattle.plain_model.specs.Refusing.{members, connection_of};
+ghost use Rattle.cell_world.specs.Members.{members};
+ghost use Rattle.plain_model.specs.Refusing.{connection_of};
 ghost use Rattle.plain_map.specs.State.{state_of, link_shown};
 
 use crate::state::{Link, PlainMap};

@@ -3,7 +3,6 @@ use Rattle.std.specs.Prelude.{◌≡◌, ℕ, ◌-◌, Bool, true, false, ◌&&�
 use Rattle.std.specs.List.{list_any}
 use Rattle.std.specs.FinMap as map
 use Rattle.std.specs.FinSet as set
-use Rattle.std.specs.declared.cmp.Ordering.{Ordering}
 use Rattle.cell_world.specs.Texts.{Text}
 use Rattle.cell_world.specs.Members.{members}
 use Rattle.cell_world.specs.Keys.{same, before, contains, overlaps, low_of, end_of, same_end, end_below}
@@ -85,16 +84,6 @@ target_of_job job = option_map (λ j. j.target) job
 -- the row that a connection, a table and a number name
 abbrev pub row_of : Connection → Text → ℕ → RowName
 row_of c table id = record { map = c.map; key = c.key; table = table; number = id }
-
--- ---- sets
-
-abbrev pub with_nothing : {K : Type 0} → List K → List (K × Unit {0})
-with_nothing [] = []
-with_nothing (k ∷ ks) = (k, tt) ∷ with_nothing ks
-
--- The members of a set in order, each once: the keys of a map with nothing at them. Of `set.items` alone no law says in which order they stand.
-abbrev pub members : {K : Type 0} {R : K → K → Ordering} → set.FinSet R → List K
-members {R = R} s = map.keys (map.from_entries {R = R} (with_nothing (set.items s)))
 
 -- ---- small tests
 

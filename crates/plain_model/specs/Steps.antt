@@ -34,7 +34,7 @@ use Rattle.plain_model.specs.declared.replies.Reply.TheVariants as reply
 use Rattle.plain_model.specs.declared.replies.Refusal.{Refusal}
 use Rattle.plain_model.specs.declared.replies.Difference.{Difference}
 use Rattle.plain_model.specs.Differing.{differences, stray_rows, local_rows_of}
-use Rattle.plain_model.specs.Refusing.{members, refusal, type_of_map, key_in, range_in, mapping_of, next_mapping, nth_difference, differing_mapping, connection_of, row_of}
+use Rattle.plain_model.specs.Refusing.{refusal, type_of_map, key_in, range_in, mapping_of, next_mapping, nth_difference, differing_mapping, connection_of, row_of}
 
 -- ---- mappings that replace others
 
