@@ -1,0 +1,6 @@
+pub mod TableLaws
+pub mod SetLaws
+pub mod TableRules
+pub mod ExchangeLaws
+pub mod LinkLaws
+pub mod RowLaws
