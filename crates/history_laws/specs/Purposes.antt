@@ -7,7 +7,7 @@ use Rattle.cell_world.specs.declared.operations.Piece.{Piece}
 use Rattle.plain_model.specs.declared.commands.Command.{Command}
 use Rattle.plain_model.specs.Timelines.{Timeline}
 use Rattle.plain_model.specs.JobSteps.{asked_number}
-use Rattle.plain_model.specs.OnTrail.{WasTried, TakesOffline}
+use Rattle.plain_model.specs.OnTrail.{WasTried, WasPut, TakesOffline}
 use Rattle.plain_model.specs.Legal.{IsPlannedIn, IsOwnOf}
 
 pub data Purpose : Type 0 where
@@ -33,3 +33,7 @@ Serves (Offlines number p) image tried = TakesOffline number p tried
 -- since the session's previous entry a commit, made or not, was to put a log cell that serves the purpose
 abbrev pub WasTriedFor : Image → ℕ → Purpose → Timeline → Type 0
 WasTriedFor start session purpose past = WasTried start session (Serves purpose) past
+
+-- since then a commit that was made put one
+abbrev pub WasPutFor : Image → ℕ → Purpose → Timeline → Type 0
+WasPutFor start session purpose past = WasPut start session (Serves purpose) past
