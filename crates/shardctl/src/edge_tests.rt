@@ -35,6 +35,7 @@ impl SteadyRead for Reader {
 }
 
 /// A writer that takes at most so many bytes at once and so many in all. What is past them fails, or isn't taken.
+#[derive(Drop)]
 struct Writer {
     taken: Vec<u8>,
     most: usize,
@@ -61,7 +62,7 @@ impl Write for Writer {
 }
 
 /// A writer with room for all.
-fn writer(alloc: Global, most: usize) -> Writer {
+fn with_room(alloc: Global, most: usize) -> Writer {
     Writer {
         taken: Vec::new(alloc),
         most,
@@ -71,6 +72,7 @@ fn writer(alloc: Global, most: usize) -> Writer {
 }
 
 /// The program's exit status, what it wrote, and what it told.
+#[derive(Drop)]
 struct Ran {
     status: u8,
     output: Writer,
@@ -78,14 +80,14 @@ struct Ran {
 }
 
 /// Runs the program without words.
-fn ran(alloc: Global, input: Reader, output: Writer) -> Ran {
-    ran_with(alloc, Vec::new(alloc), input, output)
+fn run_on(alloc: Global, input: Reader, output: Writer) -> Ran {
+    run_with(alloc, Vec::new(alloc), input, output)
 }
 
 /// Runs the program.
-fn ran_with(alloc: Global, words: Vec<String>, input: Reader, output: Writer) -> Ran {
+fn run_with(alloc: Global, words: Vec<String>, input: Reader, output: Writer) -> Ran {
     let mut output = output;
-    let mut errors = writer(alloc, 1000);
+    let mut errors = with_room(alloc, 1000);
     let status = run(alloc, &words, input, &mut output);
     let status = tell(alloc, &status, &mut errors);
     Ran {
@@ -117,13 +119,17 @@ const TWICE: &[u8] = b"map m range int\nmap m range int\n";
 #[test]
 fn each_end_has_its_status_and_its_line(rt: HostRuntime) {
     let alloc = rt.alloc();
-    let done = ran(alloc, all(b"map m range int\n"), writer(alloc, 1000));
+    let done = run_on(alloc, all(b"map m range int\n"), with_room(alloc, 1000));
     assert!(rt; is(&done, 0, b"ok\n", b""));
-    let empty = ran(alloc, all(b""), writer(alloc, 1000));
+    let empty = run_on(alloc, all(b""), with_room(alloc, 1000));
     assert!(rt; is(&empty, 0, b"", b""));
-    let refused = ran(alloc, all(TWICE), writer(alloc, 1000));
+    let refused = run_on(alloc, all(TWICE), with_room(alloc, 1000));
     assert!(rt; is(&refused, 1, b"ok\nmap-exists\n", b""));
-    let faulty = ran(alloc, all(b"map m range int\nmap n\n"), writer(alloc, 1000));
+    let faulty = run_on(
+        alloc,
+        all(b"map m range int\nmap n\n"),
+        with_room(alloc, 1000),
+    );
     assert!(rt; is(&faulty, 2, b"", b"shardctl: bad script line 2: not-built\n"));
 }
 
@@ -132,7 +138,7 @@ fn words_are_not_dropped(rt: HostRuntime) -> Result<(), Fail> {
     let alloc = rt.alloc();
     let mut words: Vec<String> = Vec::new(alloc);
     words.push(format!(in alloc; "x")?)?;
-    let worded = ran_with(alloc, words, all(TWICE), writer(alloc, 1000));
+    let worded = run_with(alloc, words, all(TWICE), with_room(alloc, 1000));
     assert!(rt; is(&worded, 2, b"", b"shardctl: bad words at 1\n"));
     Ok(())
 }
@@ -146,7 +152,7 @@ fn a_read_error_is_not_the_end(rt: HostRuntime) {
             most,
             fails: true,
         };
-        let failed = ran(alloc, reader, writer(alloc, 1000));
+        let failed = run_on(alloc, reader, with_room(alloc, 1000));
         assert!(rt; is(&failed, 3, b"", b"shardctl: read fault\n"), "by {most}");
     }
 }
@@ -160,7 +166,7 @@ fn a_short_read_is_not_the_end(rt: HostRuntime) {
             most,
             fails: false,
         };
-        let read = ran(alloc, reader, writer(alloc, 1000));
+        let read = run_on(alloc, reader, with_room(alloc, 1000));
         assert!(rt; is(&read, 1, b"ok\nmap-exists\n", b""), "by {most}");
     }
 }
@@ -168,16 +174,24 @@ fn a_short_read_is_not_the_end(rt: HostRuntime) {
 #[test]
 fn a_failed_write_is_told(rt: HostRuntime) {
     let alloc = rt.alloc();
-    for (room, fails) in [(0, true), (0, false), (5, true), (5, false)] {
+    let front = b"ok\nma".as_slice();
+    for (room, fails, taken) in [
+        (0, true, b"".as_slice()),
+        (0, false, b"".as_slice()),
+        (5, true, front),
+        (5, false, front),
+    ] {
         let output = Writer {
             taken: Vec::new(alloc),
             most: 2,
             room,
             fails,
         };
-        let failed = ran(alloc, all(TWICE), output);
-        let front = &b"ok\nma"[..room];
-        assert!(rt; is(&failed, 4, front, b"shardctl: write fault\n"), "room {room}");
+        let failed = run_on(alloc, all(TWICE), output);
+        assert!(rt;
+            is(&failed, 4, taken, b"shardctl: write fault\n"),
+            "room {room}"
+        );
     }
 }
 
@@ -185,7 +199,7 @@ fn a_failed_write_is_told(rt: HostRuntime) {
 fn a_short_write_goes_on(rt: HostRuntime) {
     let alloc = rt.alloc();
     for most in [1, 2, 13] {
-        let written = ran(alloc, all(TWICE), writer(alloc, most));
+        let written = run_on(alloc, all(TWICE), with_room(alloc, most));
         assert!(rt; is(&written, 1, b"ok\nmap-exists\n", b""), "by {most}");
     }
 }
@@ -195,12 +209,15 @@ fn too_long_a_script_is_told(rt: HostRuntime) -> Result<(), Fail> {
     let alloc = rt.alloc();
     let script = vec![in alloc; b'x'; 1_048_577]?;
     let words: Vec<String> = Vec::new(alloc);
-    let mut output = writer(alloc, 1000);
+    let mut output = with_room(alloc, 1000);
     let status = run(alloc, &words, script.as_slice(), &mut output);
     assert!(rt; status == RunStatus::TooLong);
     assert!(rt; output.taken.is_empty());
     assert_eq!(rt; tell(alloc, &status, &mut output), 7);
-    assert_eq!(rt; output.taken.as_slice(), b"shardctl: script too long\n".as_slice());
+    assert_eq!(rt;
+        output.taken.as_slice(),
+        b"shardctl: script too long\n".as_slice()
+    );
     Ok(())
 }
 
@@ -235,7 +252,10 @@ fn each_status_is_told_in_one_line(rt: HostRuntime) -> Result<(), Fail> {
 #[test]
 fn each_reason_is_told_in_one_line(rt: HostRuntime) -> Result<(), Fail> {
     for (reason, text) in [
-        (Reason::LongLine, b"shardctl: bad script line 7: long-line\n".as_slice()),
+        (
+            Reason::LongLine,
+            b"shardctl: bad script line 7: long-line\n".as_slice(),
+        ),
         (Reason::BadByte, b"shardctl: bad script line 7: bad-byte\n"),
         (
             Reason::UnknownCommand,
