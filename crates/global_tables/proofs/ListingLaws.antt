@@ -111,13 +111,13 @@ module _ (s : Store) (store : IsStore s) (g : Group) (from : CellKey) (listed fo
       kind = let i = in_inside g found last last_in in kind_in g (own_key last) i.1;
       least = (near last (in_inside g found last last_in).0).1;
       cells = same_rising Before not_itself before_trans (cells_before from (cells_of s g) ++ front) (cells_before (own_key last) (cells_of s g))
-        (rising_append Before (cells_before from (cells_of s g)) front listed_rises (rising_front Before front (last ∷ []) split_rises) (λ x y h m. across x y h (in_inside g found y (front_in y m)).0))
-        (rising_filter Before (λ c. is_lt (cell_cmp (own_key c) (own_key last))) (cells_of s g) (rise s store g))
-        (λ q h. elim (in_either (cells_before from (cells_of s g)) front q h) [
-          | inl m ↦ from_filter (λ c. is_lt (cell_cmp (own_key c) (own_key last))) (cells_of s g) q (in_filter (λ c. is_lt (cell_cmp (own_key c) from)) (cells_of s g) q m).0 (ap is_lt (across q last m (in_inside g found last last_in).0))
-          | inr m ↦ from_filter (λ c. is_lt (cell_cmp (own_key c) (own_key last))) (cells_of s g) q (found_cell q (front_in q m)) (ap is_lt (rising_across Before front (last ∷ []) split_rises q last m (inl refl)))
-        ])
-        (λ q h. let f = in_filter (λ c. is_lt (cell_cmp (own_key c) (own_key last))) (cells_of s g) q h in by q f.0 (is_less (cell_cmp (own_key q) (own_key last)) f.1) (is_lt (cell_cmp (own_key q) from)) refl);
+          (rising_append Before (cells_before from (cells_of s g)) front listed_rises (rising_front Before front (last ∷ []) split_rises) (λ x y h m. across x y h (in_inside g found y (front_in y m)).0))
+          (rising_filter Before (λ c. is_lt (cell_cmp (own_key c) (own_key last))) (cells_of s g) (rise s store g))
+          (λ q h. elim (in_either (cells_before from (cells_of s g)) front q h) [
+            | inl m ↦ from_filter (λ c. is_lt (cell_cmp (own_key c) (own_key last))) (cells_of s g) q (in_filter (λ c. is_lt (cell_cmp (own_key c) from)) (cells_of s g) q m).0 (ap is_lt (across q last m (in_inside g found last last_in).0))
+            | inr m ↦ from_filter (λ c. is_lt (cell_cmp (own_key c) (own_key last))) (cells_of s g) q (found_cell q (front_in q m)) (ap is_lt (rising_across Before front (last ∷ []) split_rises q last m (inl refl)))
+          ])
+          (λ q h. let f = in_filter (λ c. is_lt (cell_cmp (own_key c) (own_key last))) (cells_of s g) q h in by q f.0 (is_less (cell_cmp (own_key q) (own_key last)) f.1) (is_lt (cell_cmp (own_key q) from)) refl);
     }
       where
         by : (q : Cell) → IsOneOf (cells_of s g) q → Before q last → (b : Bool) → is_lt (cell_cmp (own_key q) from) ≡ b → IsOneOf (cells_before from (cells_of s g) ++ front) q

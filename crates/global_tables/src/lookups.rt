@@ -55,11 +55,7 @@ fn if_over(below: &Option<Piece>, key: &NormKey) -> Option<Piece>
 
 /// The operation of this number that isn't committed. `None` exactly where the log has none. `Store`: the store
 /// refused. After an error nothing has changed but counts.
-pub fn log_row<W: World>(
-    alloc: Global,
-    world: &mut W,
-    number: u64,
-) -> Result<Option<Op>, StepFault>
+pub fn log_row<W: World>(alloc: Global, world: &mut W, number: u64) -> Result<Option<Op>, StepFault>
     ensures found { IfOk result (λ op. IfContents (W.outside world.old).told (λ image. op ≡ map.get (global image).log number)) }
     ensures same { ReadsOnce (W.outside world.old) (W.outside world.new) }
     ensures cause { IsErrOf result StepFault.Store → Rose ((W.outside world.old).faults_at 0) ((W.outside world.new).faults_at 0) }

@@ -69,7 +69,10 @@ impl Row for ShardRow {
 
     fn read(found: &Cell) -> Option<ShardRow> {
         match found {
-            Cell::Shard(map, location) => Some(ShardRow { map: *map, location: *location }),
+            Cell::Shard(map, location) => Some(ShardRow {
+                map: *map,
+                location: *location,
+            }),
             _ => None,
         }
     }
@@ -80,7 +83,10 @@ impl Row for TableRow {
 
     fn read(found: &Cell) -> Option<TableRow> {
         match found {
-            Cell::Table(map, table) => Some(TableRow { map: *map, table: *table }),
+            Cell::Table(map, table) => Some(TableRow {
+                map: *map,
+                table: *table,
+            }),
             _ => None,
         }
     }
@@ -91,7 +97,10 @@ impl Row for AwayRow {
 
     fn read(found: &Cell) -> Option<AwayRow> {
         match found {
-            Cell::SiteState(location, state) => Some(AwayRow { location: *location, state: *state }),
+            Cell::SiteState(location, state) => Some(AwayRow {
+                location: *location,
+                state: *state,
+            }),
             _ => None,
         }
     }

@@ -189,7 +189,7 @@ module _ (key seen : Text) (saw : seen ≡ key) (form : is_key_form key ≡ true
       → SomeIff o (length bytes ≤ 128) bytes → MatchOption o (key ≡ []) (λ below. IsJustBelow below key)
   made_at_byte o bytes last is iff = made o bytes key iff (room bytes is)
       (subst (λ b. IsJustBelow b key) (sym is) (subst (IsJustBelow (take (length seen - 1) seen ++ (get_or seen (length seen - 1) 0 - 1) ∷ replicate (127 - length (take (length seen - 1) seen)) 255)) split
-        (below_at_byte (take (length seen - 1) seen) (get_or seen (length seen - 1) 0) (omega (arith, last)) short)))
+      (below_at_byte (take (length seen - 1) seen) (get_or seen (length seen - 1) 0) (omega (arith, last)) short)))
 
 pub set_behind : (front : Text) (last : ℕ) → length front < 128 → set (front ++ replicate (128 - length front) 255) (length front) last ≡ front ++ last ∷ replicate (127 - length front) 255
 set_behind front last lt =

@@ -39,7 +39,7 @@ begins_none s store log name key q h c o =
     let over = and_parts (same name q.map) (contains q.span key) o in
     let lt : q.number < 18446744073709551616 = (local_typed s store log name key q h).number in
     not_gt_is _ (ap is_gt (local_order q.map name (low_of q.span) key q.number 18446744073709551615 (sym (same_is name q.map over.0)))
-      ∙ not_greater (byte_cmp (low_of q.span) key) (nat_cmp q.number 18446744073709551615) (not_gt_no (byte_cmp (low_of q.span) key) (low_at_most q.span key over.1)) (λ e. number_up q.number 18446744073709551615 (omega (arith, lt))))
+    ∙ not_greater (byte_cmp (low_of q.span) key) (nat_cmp q.number 18446744073709551615) (not_gt_no (byte_cmp (low_of q.span) key) (low_at_most q.span key over.1)) (λ e. number_up q.number 18446744073709551615 (omega (arith, lt))))
 
 begins_left : (locals : Locals) (name key : Text) → marks_left locals name key (first name key) ≤ marks_over locals name key
 begins_left locals name key = fewer (λ q. (is_marked q.mark && is_over name key q) && is_up_to (first name key) q) (λ q. is_marked q.mark && is_over name key q) (fin.values locals)

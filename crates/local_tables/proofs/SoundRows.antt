@@ -20,7 +20,7 @@ attached_apart image location name sound attached = record {
       let m = (sound.locals location attached).counted a h c in
       let n = (sound.locals location attached).counted b g d in
       let one : m.0 ≡ n.0 = sound.globals.disjoint m.0 n.0 m.1 n.1 (sym m.3.map ∙ e ∙ sym f ∙ n.3.map)
-          (overlaps_shared m.0.span n.0.span key (subst (λ s. contains s key ≡ true) m.3.span x) (subst (λ s. contains s key ≡ true) n.3.span y)) in
+      (overlaps_shared m.0.span n.0.span key (subst (λ s. contains s key ≡ true) m.3.span x) (subst (λ s. contains s key ≡ true) n.3.span y)) in
       (sound.locals location attached).once a b h g c d (e ∙ sym f) (ap low_of m.3.span ∙ ap (λ (p : Piece). low_of p.span) one ∙ sym (ap low_of n.3.span));
 }
 

@@ -54,7 +54,7 @@ module _ (o : Outside) (site : Site) (cells : TellsCells o.told) (is_site : IsSi
   looks_none below is found = told_both o.told cells (Found below) (λ image. Unit {0})
       (λ image. IsFrom name key from → CountApart (global image).log (store_at o site image).locals name → NoneAbove (global image).log (store_at o site image).locals name key from → None ≡ resolved (global image).log (store_at o site image).locals name key)
       (λ image all floor u at apart none.
-        looks_nothing (store_at o site image) (stored (place_at o.locations site.0) image all is_site) (global image).log name key from at (subst (λ b. IsFloor (store_at o site image) from (option_map cell.Local b)) is floor) none)
+      looks_nothing (store_at o site image) (stored (place_at o.locations site.0) image all is_site) (global image).log name key from at (subst (λ b. IsFloor (store_at o site image) from (option_map cell.Local b)) is floor) none)
       found (nothing_more o.told)
 
   module _ (below : Option LocalRow) (row : LocalRow) (is : below ≡ Some row) (found : IfContents o.told (Found below)) (told : Told) (same : told ≡ o.told) where
@@ -84,8 +84,8 @@ module _ (o : Outside) (site : Site) (cells : TellsCells o.told) (is_site : IsSi
     reads_some before between after e le r j = told_both o.told cells (Found below) (λ image. IfOk r (Judges (global image).log key row))
         (λ image. IsFrom name key from → after + left_after (store_at o site image).locals name key r ≤ before + marks_left (store_at o site image).locals name key from)
         (λ image all floor judged at.
-          let spent = reads_row (store_at o site image) (stored (place_at o.locations site.0) image all is_site) (global image).log name key from at row (floor_at image floor) (global image).log r judged in
-          omega (arith, e, le, spent))
+        let spent = reads_row (store_at o site image) (stored (place_at o.locations site.0) image all is_site) (global image).log name key from at row (floor_at image floor) (global image).log r judged in
+        omega (arith, e, le, spent))
         found (judged_by r j)
       where
         judged_by : (r : Result Look StepFault) → IfOk r (λ look. IfContents told (λ image. Judges (global image).log key row look)) → IfContents o.told (λ image. IfOk r (Judges (global image).log key row))

@@ -9,5 +9,4 @@ ghost use Rattle.local_tables.specs.Resolving.{CountApart};
 pub fn rows_count_apart()
     ensures attached { (image : Image) (location name : Text) → Sound image → IsAttachedIn image location → CountApart (global image).log (image.at (Shard location)).locals name }
     ensures suspect { (image : Image) (location name : Text) → Sound image → IsSuspectIn image location → CountApart (global image).log (image.at (Shard location)).locals name }
-{
-}
+{}

@@ -30,7 +30,8 @@ fn here() -> Result<Location, Fail> {
 
 /// A world of one location, without cells.
 fn empty_world(alloc: Global) -> Result<MemoryWorld, Fail> {
-    Ok(MemoryWorld::new(alloc, &[here()?])?)
+    let at = here()?;
+    Ok(MemoryWorld::new(alloc, &[at])?)
 }
 
 fn piece(map: &[u8], span: Span) -> Result<Piece, Fail> {

@@ -32,7 +32,12 @@ fn up_to(end: u8) -> Result<Span, Fail> {
 }
 
 /// Puts a local row at a location that the world knows.
-fn put_row(alloc: Global, world: &mut MemoryWorld, at: &Location, row: LocalRow) -> Result<(), Fail> {
+fn put_row(
+    alloc: Global,
+    world: &mut MemoryWorld,
+    at: &Location,
+    row: LocalRow,
+) -> Result<(), Fail> {
     let mut change = Change::empty(alloc);
     change.put(Cell::Local(row))?;
     match world.locate(at) {

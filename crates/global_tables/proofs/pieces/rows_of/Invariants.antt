@@ -9,5 +9,5 @@ abbrev pub invariant-loop : goal.invariant-loop
 invariant-loop g l = record {
   listed : IfContents (g.W.World.outside l.fn.world).told (λ image. IsUpTo (global image) l.group l.from (map g.T.Row.cell_of l.rows.items));
   told : (g.W.World.outside l.world).told ≡ (g.W.World.outside l.fn.world).told;
-  later : IsLater (g.W.World.outside l.fn.world) (g.W.World.outside l.world)
+  later : IsLater (g.W.World.outside l.fn.world) (g.W.World.outside l.world);
 }

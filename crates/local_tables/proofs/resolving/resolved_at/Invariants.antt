@@ -10,5 +10,5 @@ invariant-loop g l = record {
   none : IfContents (g.W.World.outside l.fn.world).told (None_above (g.W.World.outside l.fn.world) l.site l.map l.key l.from);
   spent : IfContents (g.W.World.outside l.fn.world).told (Spent (g.W.World.outside l.fn.world) l.site l.map l.key (g.W.World.outside l.world).global_reads l.from);
   told : (g.W.World.outside l.world).told ≡ (g.W.World.outside l.fn.world).told;
-  later : IsLater (g.W.World.outside l.fn.world) (g.W.World.outside l.world)
+  later : IsLater (g.W.World.outside l.fn.world) (g.W.World.outside l.world);
 }
