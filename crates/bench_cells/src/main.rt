@@ -11,7 +11,8 @@ use std::env;
 const PIECE: &[u8] = b"\x00\x04\x80\x00\x00\x00\x00\x04\x80\x00\x00\x64\x01\x03s/a\x00";
 
 /// A job for them from s/a to s/b.
-const JOB: &[u8] = b"\x00\x00\x00\x01\x01m\x04\x80\x00\x00\x00\x00\x04\x80\x00\x00\x64\x03s/a\x03s/b\x00\x00\x00\x64\x00\x04\x80\x00\x00\x00\x00";
+const JOB: &[u8] =
+    b"\x00\x00\x00\x01\x01m\x04\x80\x00\x00\x00\x00\x04\x80\x00\x00\x64\x03s/a\x03s/b\x00\x00\x00\x64\x00\x04\x80\x00\x00\x00\x00";
 
 /// The bytes of a small cell of this kind.
 fn small_cell(kind: &str) -> Option<&'static [u8]> {
@@ -21,7 +22,9 @@ fn small_cell(kind: &str) -> Option<&'static [u8]> {
         "table" => Some(b"\x01\x03\x06orders\x05lines".as_slice()),
         "counter" => Some(b"\x01\x07\x00\x00\x00\x00\x00\x00\x00\x03\x00\x00\x00\x01".as_slice()),
         "state" => Some(b"\x01\x08\x0bserver/data\x01".as_slice()),
-        "local" => Some(b"\x01\x09\x01m\x00\x04\x80\x00\x00\x00\x00\x04\x80\x00\x00\x0a\x00\x00\x00\x00\x00\x00\x00\x01\x01\x00".as_slice()),
+        "local" => Some(
+            b"\x01\x09\x01m\x00\x04\x80\x00\x00\x00\x00\x04\x80\x00\x00\x0a\x00\x00\x00\x00\x00\x00\x00\x01\x01\x00".as_slice(),
+        ),
         _ => None,
     }
 }
@@ -29,7 +32,9 @@ fn small_cell(kind: &str) -> Option<&'static [u8]> {
 /// The bytes of a row with a value of this length, up to 1,024.
 fn row_cell(alloc: Global, len: u16) -> Result<Vec<u8>, Error> {
     let mut bytes = Vec::new(alloc);
-    bytes.extend_from_slice(b"\x01\x0a\x01m\x04\x80\x00\x00\x02\x01t\x00\x00\x00\x00\x00\x00\x00\x01".as_slice())?;
+    bytes.extend_from_slice(
+        b"\x01\x0a\x01m\x04\x80\x00\x00\x02\x01t\x00\x00\x00\x00\x00\x00\x00\x01".as_slice(),
+    )?;
     bytes.extend_from_slice(&len.to_be_bytes())?;
     for i in 0..len {
         bytes.push((i % 251) as u8)?;
@@ -48,7 +53,8 @@ fn joined_cell(alloc: Global, front: &[u8], middle: &[u8], back: &[u8]) -> Resul
 
 /// An operation that puts a mapping in its own place.
 fn log_cell(alloc: Global) -> Result<Vec<u8>, Error> {
-    let front = b"\x01\x05\x00\x00\x00\x00\x00\x00\x00\x01\x01m\x00\x04\x80\x00\x00\x00\x00\x04\x80\x00\x00\x64\x01";
+    let front =
+        b"\x01\x05\x00\x00\x00\x00\x00\x00\x00\x01\x01m\x00\x04\x80\x00\x00\x00\x00\x04\x80\x00\x00\x64\x01";
     let olds = joined_cell(alloc, front.as_slice(), PIECE, b"\x01".as_slice())?;
     joined_cell(alloc, olds.as_slice(), PIECE, b"\x00".as_slice())
 }
