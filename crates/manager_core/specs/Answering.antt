@@ -15,14 +15,13 @@ use Rattle.plain_model.specs.declared.commands.Command.{Command}
 use Rattle.plain_model.specs.declared.history.Entry.{Entry}
 use Rattle.plain_model.specs.declared.replies.Reply.{Reply}
 use Rattle.plain_model.specs.declared.replies.Reply.TheVariants as reply
-use Rattle.plain_model.specs.declared.replies.Sort.{Sort}
 use Rattle.plain_model.specs.declared.replies.Sort.TheVariants as sort
 use Rattle.plain_model.specs.Lines.{reply_lines}
 use Rattle.plain_model.specs.OnTrail.{logs_put}
 use Rattle.plain_model.specs.Summary.{sort_of}
 use Rattle.plain_model.specs.Written.{EachReply}
 use Rattle.plain_model.specs.ShortCommands.{short_commit, standing_with, FollowsShort}
-use Rattle.plain_model.specs.RunSoFar.{KeepsRun, KeepsContents, resting}
+use Rattle.plain_model.specs.RunSoFar.{KeepsRun, resting}
 use Rattle.manager_core.specs.declared.manager.Outcome.{Outcome}
 use Rattle.manager_core.specs.declared.manager.Outcome.TheVariants.{Ended, Unasked, Unwritten}
 
