@@ -1,2 +1,9 @@
+pub mod Commands
 pub mod Endings
+pub mod Reading
+pub mod Scripts
 pub mod Sources
+pub mod Spelling
+pub mod Values
+pub mod WordKinds
+pub mod Words

@@ -3,6 +3,7 @@ ghost use Rattle.std.specs.Prelude.{◌≡◌, ◌++◌, codes, decimal, IfOk, O
 ghost use Rattle.plain_model.specs.Lines.{reason_text, status_text, error_line};
 ghost use Rattle.script_lang.specs.Endings.{exit_status};
 
+use crate::adding::{add, add_number};
 use cell_world::memory::Memory;
 use plain_model::finish::{Reason, RunStatus};
 use std::alloc::Global;
@@ -24,22 +25,6 @@ pub fn exit_number(status: &RunStatus) -> u8
     }
 }
 
-/// Adds bytes to a line.
-fn add(line: &mut Vec<u8>, bytes: &[u8]) -> Result<(), Memory>
-    ensures { OnOk result (line.new.items ≡ line.old.items ++ bytes.now) }
-{
-    line.extend_from_slice(bytes)?;
-    Ok(())
-}
-
-/// Adds a number in decimal.
-fn add_number(alloc: Global, line: &mut Vec<u8>, number: u32) -> Result<(), Memory>
-    ensures { OnOk result (line.new.items ≡ line.old.items ++ decimal number) }
-{
-    let text = format!(in alloc; "{number}")?;
-    add(line, text.as_bytes())
-}
-
 /// Adds why a line is faulty.
 fn add_reason(alloc: Global, line: &mut Vec<u8>, reason: Reason) -> Result<(), Memory>
     ensures { OnOk result (line.new.items ≡ line.old.items ++ reason_text reason) }
@@ -52,7 +37,7 @@ fn add_reason(alloc: Global, line: &mut Vec<u8>, reason: Reason) -> Result<(), M
         Reason::BadCount => add(line, b"bad-count"),
         Reason::BadWord(number) => {
             add(line, b"bad-word ")?;
-            add_number(alloc, line, number)
+            add_number(alloc, line, u64::from(number))
         }
         Reason::NotBuilt => add(line, b"not-built"),
     }
@@ -63,7 +48,7 @@ fn add_faulty(alloc: Global, line: &mut Vec<u8>, number: u32, reason: Reason) ->
     ensures { OnOk result (line.new.items ≡ line.old.items ++ (codes "bad script line " ++ decimal number ++ codes ": " ++ reason_text reason)) }
 {
     add(line, b"bad script line ")?;
-    add_number(alloc, line, number)?;
+    add_number(alloc, line, u64::from(number))?;
     add(line, b": ")?;
     add_reason(alloc, line, reason)
 }
@@ -85,7 +70,7 @@ fn add_status(alloc: Global, line: &mut Vec<u8>, status: &RunStatus) -> Result<(
         RunStatus::Done | RunStatus::Refused => Ok(()),
         RunStatus::BadWords(place) => {
             add(line, b"bad words at ")?;
-            add_number(alloc, line, place)
+            add_number(alloc, line, u64::from(place))
         }
         RunStatus::BadScript(number, reason) => add_faulty(alloc, line, number, reason),
         RunStatus::ReadFault => add(line, b"read fault"),
