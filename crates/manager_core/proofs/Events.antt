@@ -230,12 +230,31 @@ module _ (asked : Asked) (planned : is_short asked.command ≡ true) (old mid ne
       }
 
       by : (outcome : Outcome) → WritesLine mid.told new.told r outcome → Asks asked old new history two outcome
-      by (Ended sort) w = (r, w.0, enters, subst (λ es. KeepsRun (EachReply false) old.told (resting history) new.told (resting es) []) (sym settles)
-          (wrote asked.session asked.command planned r (word_is_short r word) moment old.told mid.told new.told history of_command now w.1))
-      by (Unwritten error.Failed) w = (r, enters, (drop w.0 (reply_lines None r), subst (λ es. KeepsRun (EachReply false) old.told (resting history) new.told (resting es) (drop w.0 (reply_lines None r))) (sym settles)
-          (wrote_front asked.session asked.command planned r (word_is_short r word) moment old.told mid.told new.told history of_command now w.0 w.1)))
-      by (Unwritten error.Memory) w = (r, enters, (reply_lines None r, subst (λ es. KeepsRun (EachReply false) old.told (resting history) new.told (resting es) (reply_lines None r)) (sym settles)
-          (wrote_nothing asked.session asked.command planned r (word_is_short r word) moment old.told mid.told new.told history of_command now w)))
+      by (Ended sort) w = (
+        r,
+        w.0,
+        enters,
+        subst (λ es. KeepsRun (EachReply false) old.told (resting history) new.told (resting es) []) (sym settles)
+            (wrote asked.session asked.command planned r (word_is_short r word) moment old.told mid.told new.told history of_command now w.1),
+      )
+      by (Unwritten error.Failed) w = (
+        r,
+        enters,
+        (
+          drop w.0 (reply_lines None r),
+          subst (λ es. KeepsRun (EachReply false) old.told (resting history) new.told (resting es) (drop w.0 (reply_lines None r))) (sym settles)
+              (wrote_front asked.session asked.command planned r (word_is_short r word) moment old.told mid.told new.told history of_command now w.0 w.1),
+        ),
+      )
+      by (Unwritten error.Memory) w = (
+        r,
+        enters,
+        (
+          reply_lines None r,
+          subst (λ es. KeepsRun (EachReply false) old.told (resting history) new.told (resting es) (reply_lines None r)) (sym settles)
+              (wrote_nothing asked.session asked.command planned r (word_is_short r word) moment old.told mid.told new.told history of_command now w),
+        ),
+      )
       by Unasked w = absurd w
 
   pub contents : KeepsContents old.told (resting history) new.told (resting two)

@@ -35,19 +35,22 @@ module _ (c : Command) (short : is_short c ≡ true) where
   answers_memory old new same = inl (same, at_rest old reply.Memory (λ image session connections. short_memory session c short (standing_with image connections) (standing_with image connections) refl))
 
   pub answers_refused : (old new : Told) (r : Refusal) → is_short_refusal r ≡ true → new ≡ old → IfContents old (λ image. Sound image → (session : ℕ) → IsRefusedWith session c r image) → AnswersShort old new c (reply.Refused r)
-  answers_refused old new r word same plans = inl (same,
-      contents_weaker old (λ image. Sound image → (session : ℕ) → IsRefusedWith session c r image) (λ image. Sound image → AnswersAt c (reply.Refused r) image)
-      (λ image refuses sound session connections. short_refused session c short (standing_with image connections) (standing_with image connections) r word (refuses sound session connections) refl) plans)
+  answers_refused old new r word same plans = inl (
+    same,
+    contents_weaker old (λ image. Sound image → (session : ℕ) → IsRefusedWith session c r image) (λ image. Sound image → AnswersAt c (reply.Refused r) image)
+        (λ image refuses sound session connections. short_refused session c short (standing_with image connections) (standing_with image connections) r word (refuses sound session connections) refl) plans,
+  )
 
   pub answers_answer : (old new : Told) (r : Reply) → is_short_answer r ≡ true → new ≡ old → IfContents old (λ image. Sound image → (session : ℕ) → IsShortAnswer session c r image) → AnswersShort old new c r
-  answers_answer old new r answer same plans = inl (same,
-      contents_weaker old (λ image. Sound image → (session : ℕ) → IsShortAnswer session c r image) (λ image. Sound image → AnswersAt c r image)
-      (λ image answers sound session connections. let so = answers sound session connections in short_done session c short (standing_with image connections) (standing_with image connections) r answer so.0 so.1) plans)
+  answers_answer old new r answer same plans = inl (
+    same,
+    contents_weaker old (λ image. Sound image → (session : ℕ) → IsShortAnswer session c r image) (λ image. Sound image → AnswersAt c r image)
+        (λ image answers sound session connections. let so = answers sound session connections in short_done session c short (standing_with image connections) (standing_with image connections) r answer so.0 so.1) plans,
+  )
 
   -- ---- the change is made, or it may be
 
   module _ (change : List Edit) (no_log : logs_put change ≡ []) (r : Reply) (answer : is_short_answer r ≡ true) where
-
     made : (image : Image) → (Sound image → (session : ℕ) → IsShortChange session c change r image) → Sound image → CommitsAt c r change true image
     made image plans sound = record {
       sound = (plans sound 1).sound;

@@ -58,7 +58,11 @@ impl<W: World> Core<W> {
         ensures cause { result ≡ Outcome.Unwritten WorldError.Failed → Rose (W.outside self.old.world).sink_faults (W.outside self.new.world).sink_faults }
     {
         let moment = self.world.moment();
-        if self.history.open(asked.session, asked.command, moment).is_err() {
+        if self
+            .history
+            .open(asked.session, asked.command, moment)
+            .is_err()
+        {
             return Outcome::Unasked;
         }
         let reply = answer(alloc, &mut self.world, self.history.last_command());
