@@ -12,6 +12,7 @@ mod numbers;
 pub mod programs;
 pub mod reading;
 pub mod replies;
+mod reply_words;
 mod row_commands;
 mod script_lines;
 pub mod scripts;
