@@ -7,7 +7,8 @@ use Rattle.plain_model.specs.declared.replies.Reply.TheVariants as reply
 use Rattle.plain_model.specs.declared.replies.Refusal.TheVariants as refused
 use Rattle.plain_model.specs.Refusing.{refusal}
 use Rattle.plain_model.specs.Steps.{plain_step}
-use Rattle.model_examples.specs.Values.{map_m, make_map, with_map}
+use Rattle.model_examples.specs.Values.{make_map, with_map}
+use Rattle.world_examples.specs.Examples.{map_m}
 
 pub not_open : (held_then : Held) (s : PlainState) → s.connections 1 1 ≡ None → plain_step held_then s 1 (command.Close 1) ≡ (s, reply.Refused refused.NoConnection)
 unfolding refusal

@@ -11,7 +11,8 @@ use Rattle.plain_model.specs.JobSteps.{with_ended}
 use Rattle.plain_model.specs.Refusing.{refusal, mapping_of, if_there}
 use Rattle.plain_model.specs.Steps.{plain_step, refused_or_done, accepted, ended_under}
 use Rattle.plain_model.specs.Worked.{small_key, small_range, mapping_over}
-use Rattle.model_examples.specs.Values.{map_m, site_a, keyed_pieces, connected_state, one_connection, fresh_state, fresh_connected, job_piece}
+use Rattle.model_examples.specs.Values.{connected_state, one_connection, fresh_state, fresh_connected}
+use Rattle.world_examples.specs.Examples.{map_m, site_a, keyed_pieces, job_piece}
 use Rattle.model_examples.proofs.Lookups.{entries_of}
 use Rattle.model_examples.proofs.JobStates.{m_stands}
 

@@ -29,7 +29,8 @@ use Rattle.plain_model.specs.JobSteps.{TakesJobStep, IsOfflineStep, stepped, fin
 use Rattle.plain_model.specs.Refusing.{refusal, if_there}
 use Rattle.plain_model.specs.Steps.{plain_step, refused_or_done}
 use Rattle.plain_model.specs.Worked.{small_key, small_range, mapping_over}
-use Rattle.model_examples.specs.Values.{map_m, map_n, site_a, site_b, entries_m, maps_m, keyed_pieces, numbered_jobs, jobs_of, with_map, state_with, job_at, job_piece, copying_state, after_move, fresh_state, after_split, all_moved_state, finished_state}
+use Rattle.model_examples.specs.Values.{numbered_jobs, with_map, state_with_jobs, copying_state, after_move, fresh_state, after_split, all_moved_state, finished_state}
+use Rattle.world_examples.specs.Examples.{map_m, map_n, site_a, site_b, entries_m, maps_m, keyed_pieces, jobs_of, job_at, job_piece}
 use Rattle.model_examples.proofs.Lookups.{get_of, entries_of, differ}
 use Rattle.model_examples.proofs.Maps.{has_map, has_it}
 
@@ -38,8 +39,8 @@ use Rattle.model_examples.proofs.Maps.{has_map, has_it}
 pub m_stands : fin.get maps_m map_m ≡ Some (kind.Range, Int)
 m_stands = get_of byte_cmp entries_m tt map_m
 
-pub n_is_more : (pieces : List Piece) (jobs : List JobRow) → state_with pieces jobs ≡ with_map (state_with pieces jobs) map_n → ⊥
-n_is_more pieces jobs e = differ (has_map map_n) _ _ (sym e) (has_it (state_with pieces jobs) map_n) (ap is_some (get_of byte_cmp entries_m tt map_n))
+pub n_is_more : (pieces : List Piece) (jobs : List JobRow) → state_with_jobs pieces jobs ≡ with_map (state_with_jobs pieces jobs) map_n → ⊥
+n_is_more pieces jobs e = differ (has_map map_n) _ _ (sym e) (has_it (state_with_jobs pieces jobs) map_n) (ap is_some (get_of byte_cmp entries_m tt map_n))
 
 -- ---- the job
 
@@ -58,15 +59,15 @@ module _ (cursor : ℕ) (phase : Phase) where
   asked_for number job asked stands = let is : number ≡ 1 = cc in is_job job (ap (fin.get (jobs_of (job_at cursor phase ∷ []))) (sym is) ∙ stands)
 
 -- `step 1` isn't refused
-pub step_accepted : (pieces : List Piece) (cursor : ℕ) (phase : Phase) → refusal (state_with pieces (job_at cursor phase ∷ [])) 1 (command.Step 1) ≡ None
+pub step_accepted : (pieces : List Piece) (cursor : ℕ) (phase : Phase) → refusal (state_with_jobs pieces (job_at cursor phase ∷ [])) 1 (command.Step 1) ≡ None
 unfolding refusal
 step_accepted pieces cursor phase = rw (job_stands cursor phase, fin.get-empty byte_cmp site_a, fin.get-empty byte_cmp site_b) refl
 
 -- and so the plain step gives no refusal
 pub step_answers : (held_then : Held) (pieces : List Piece) (cursor : ℕ) (phase : Phase) (B : PlainState) (answer : Reply)
-    → plain_step held_then (state_with pieces (job_at cursor phase ∷ [])) 1 (command.Step 1) ≡ (B, answer) → reply.Done 1 ≡ answer
+    → plain_step held_then (state_with_jobs pieces (job_at cursor phase ∷ [])) 1 (command.Step 1) ≡ (B, answer) → reply.Done 1 ≡ answer
 step_answers held_then pieces cursor phase B answer e =
-    ap (λ r. (refused_or_done held_then (state_with pieces (job_at cursor phase ∷ [])) 1 (command.Step 1) r).1) (sym (step_accepted pieces cursor phase)) ∙ ap (λ r. r.1) e
+    ap (λ r. (refused_or_done held_then (state_with_jobs pieces (job_at cursor phase ∷ [])) 1 (command.Step 1) r).1) (sym (step_accepted pieces cursor phase)) ∙ ap (λ r. r.1) e
 
 -- ---- the move of the batch
 

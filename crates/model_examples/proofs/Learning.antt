@@ -17,7 +17,8 @@ use Rattle.plain_model.specs.declared.replies.Refusal.TheVariants as refused
 use Rattle.plain_model.specs.declared.replies.Reply.TheVariants as reply
 use Rattle.plain_model.specs.Follows.{cache_of, Drops}
 use Rattle.plain_model.specs.Worked.{small_key, small_range, mapping_over}
-use Rattle.model_examples.specs.Values.{answered, made, map_m, site_b, state_with, finished_state, site_a, keyed_pieces, owned_state, learnt, open_5, opened_past}
+use Rattle.model_examples.specs.Values.{answered, made, state_with_jobs, finished_state, owned_state, learnt, open_5, opened_past}
+use Rattle.world_examples.specs.Examples.{map_m, site_b, site_a, keyed_pieces}
 use Rattle.model_examples.proofs.Lookups.{entries_of}
 use Rattle.model_examples.proofs.JobStates.{m_stands}
 
@@ -42,11 +43,11 @@ pub only_known : (k : Learnt) → IsOneOf (cache_of opened_past) k → learnt 0 
 only_known k one = ⊎_elim (λ e. e) (λ none. absurd none) (subst (λ (cache : Cache). IsOneOf cache k) (opens 0) one)
 
 -- where the owner is lost the span is forgotten, and where it moved another is learnt in its place
-loses : (cache : Cache) (place : ℕ) → cache_after cache (state_with [] []) place open_5 (Some (reply.Refused refused.NoMapping)) ≡ forget_key cache map_m (small_key 5)
+loses : (cache : Cache) (place : ℕ) → cache_after cache (state_with_jobs [] []) place open_5 (Some (reply.Refused refused.NoMapping)) ≡ forget_key cache map_m (small_key 5)
 unfolding normal_of
 loses cache place = rw (m_stands, m_stands, entries_of pair_cmp (keyed_pieces []) tt) refl
 
-pub forgets : cache_of (made (answered 1 open_5 (reply.Refused refused.NoMapping)) (state_with [] []) ∷ opened_past) ≡ []
+pub forgets : cache_of (made (answered 1 open_5 (reply.Refused refused.NoMapping)) (state_with_jobs [] []) ∷ opened_past) ≡ []
 forgets = loses (cache_of opened_past) 1 ∙ ap (λ (cache : Cache). forget_key cache map_m (small_key 5)) (opens 0)
 
 -- the span at the other site
@@ -61,7 +62,7 @@ pub replaced : (session : ℕ) → cache_of (made (answered session open_5 (repl
 replaced session = replaces (cache_of opened_past) (opens 0)
 
 -- each of the three ways to drop it
-pub drops_lost : Drops (made (answered 1 open_5 (reply.Refused refused.NoMapping)) (state_with [] [])) opened_past (learnt 0 10 0)
+pub drops_lost : Drops (made (answered 1 open_5 (reply.Refused refused.NoMapping)) (state_with_jobs [] [])) opened_past (learnt 0 10 0)
 drops_lost = inl (is_known, λ still. subst (λ (cache : Cache). IsOneOf cache (learnt 0 10 0)) forgets still)
 
 pub drops_replaced : Drops (made (answered 1 open_5 (reply.At site_b)) finished_state) opened_past (learnt 0 10 0)

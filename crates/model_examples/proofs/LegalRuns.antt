@@ -23,7 +23,8 @@ use Rattle.plain_model.specs.OnTrail.{NoneOwed}
 use Rattle.plain_model.proofs.OwedLaws.{none_at_first, none_after_entry}
 use Rattle.plain_model.proofs.NearLaws.{near_itself}
 use Rattle.plain_model.proofs.WrittenAtMoments.{written_by_moments}
-use Rattle.model_examples.specs.Values.{site_a, site_b, map_m, two_sites, trail_of, nothing_going, map_trail, map_commit, image_m, map_entry, closing}
+use Rattle.model_examples.specs.Values.{two_sites, trail_of, nothing_going, map_trail, map_commit, image_m, map_entry, closing}
+use Rattle.world_examples.specs.Examples.{site_a, site_b, map_m}
 use Rattle.std.specs.Prelude.{codes}
 use Rattle.model_examples.proofs.Closing.{not_open, makes_first}
 

@@ -22,7 +22,8 @@ use Rattle.plain_model.specs.Timelines.{Happened, Entered}
 use Rattle.plain_model.specs.Written.{EachReply, AllWritten}
 use Rattle.plain_model.proofs.RunLaws.{begins, owing-entered, owing-wrote_all}
 use Rattle.plain_model.proofs.RunsAtMoments.{runs_by_moments, all_lines_written}
-use Rattle.model_examples.specs.Values.{map_m, site_a, site_b, two_sites}
+use Rattle.model_examples.specs.Values.{two_sites}
+use Rattle.world_examples.specs.Examples.{map_m, site_a, site_b}
 use Rattle.model_examples.specs.Runs.{list_trail, list_asked, list_refused, no_map_line}
 use Rattle.model_examples.proofs.Served.{serves}
 

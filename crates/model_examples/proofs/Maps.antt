@@ -13,7 +13,8 @@ use Rattle.plain_model.specs.declared.replies.Refusal.TheVariants as refused
 use Rattle.plain_model.specs.Refusing.{refusal}
 use Rattle.plain_model.specs.Steps.{plain_step}
 use Rattle.plain_model.proofs.StepLaws.{map_refused, stands_after_insert}
-use Rattle.model_examples.specs.Values.{map_m, map_n, make_map, empty_state, with_map}
+use Rattle.model_examples.specs.Values.{make_map, empty_state, with_map}
+use Rattle.world_examples.specs.Examples.{map_m, map_n}
 use Rattle.model_examples.proofs.Lookups.{differ}
 
 -- a map of this name stands

@@ -16,7 +16,8 @@ use Rattle.plain_model.specs.Legal.{Legal, IsPlanned}
 use Rattle.plain_model.specs.Timelines.{Happened, Entered, image_of}
 use Rattle.plain_model.specs.Worked.{small_key}
 use Rattle.plain_model.proofs.NearLaws.{near_itself, near_of}
-use Rattle.model_examples.specs.Values.{logging, site_a, site_b, keyed_pieces, job_at, job_piece, nothing_going, tried, move_op, move_commit, copying_image, copying_trail}
+use Rattle.model_examples.specs.Values.{logging, nothing_going, tried, move_op, move_commit, copying_image, copying_trail}
+use Rattle.world_examples.specs.Examples.{site_a, site_b, keyed_pieces, job_at, job_piece}
 use Rattle.model_examples.specs.Runs.{named_step}
 use Rattle.plain_model.specs.OnTrail.{InLog, NoneOwed}
 use Rattle.plain_model.proofs.OwedLaws.{none_at_first, none_after_log, open_unnamed, tried_or_open}

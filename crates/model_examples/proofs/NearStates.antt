@@ -20,7 +20,8 @@ use Rattle.cell_world.proofs.SpanLaws.{same_is, at_most_below, at_most_trans}
 use Rattle.plain_model.specs.Differing.{local_status, local_rows_of}
 use Rattle.plain_model.specs.Near.{Near}
 use Rattle.plain_model.specs.Worked.{small_key, small_range, local_row_over}
-use Rattle.model_examples.specs.Values.{map_m, site_a, away_of, away_state, holding, keyed_locals, local_rows}
+use Rattle.model_examples.specs.Values.{away_state, holding, keyed_locals, local_rows}
+use Rattle.world_examples.specs.Examples.{map_m, site_a, away_of}
 use Rattle.model_examples.proofs.Lookups.{get_of, entries_of}
 use Rattle.model_examples.proofs.Maps.{has_map}
 

@@ -15,20 +15,21 @@ use Rattle.cell_world.specs.declared.cells.Status.TheVariants.{Online}
 use Rattle.plain_model.specs.Legal.{IsOwnOf}
 use Rattle.plain_model.specs.Steps.{Exchange, exchange_of}
 use Rattle.plain_model.specs.Worked.{small_range, mapping_over}
-use Rattle.model_examples.specs.Values.{map_m, state_with, add_0_10, add_op}
+use Rattle.model_examples.specs.Values.{state_with_jobs, add_0_10, add_op}
+use Rattle.world_examples.specs.Examples.{map_m}
 use Rattle.model_examples.proofs.JobStates.{m_stands}
 
-pub reached : reach_of_command (state_with [] []) add_0_10 ≡ reach.Part map_m (small_range 0 10)
+pub reached : reach_of_command (state_with_jobs [] []) add_0_10 ≡ reach.Part map_m (small_range 0 10)
 unfolding normal_of
 reached = rw m_stands refl
 
 -- what `add m 0 10` exchanges
-pub exchanges : exchange_of (state_with [] []) add_0_10 ≡ ([], mapping_over (small_range 0 10) Online ∷ [])
+pub exchanges : exchange_of (state_with_jobs [] []) add_0_10 ≡ ([], mapping_over (small_range 0 10) Online ∷ [])
 unfolding normal_of
 exchanges = rw m_stands refl
 
 -- so it is the operation that adds this range
-pub adds : (image : Image) (number : ℕ) → IsOwnOf (state_with [] []) add_0_10 None image (add_op number 0 10)
+pub adds : (image : Image) (number : ℕ) → IsOwnOf (state_with_jobs [] []) add_0_10 None image (add_op number 0 10)
 adds image number = (sym (ap (λ (e : Exchange). e.0) exchanges), sym (ap (λ (e : Exchange). e.1) exchanges))
 
 -- the log has this operation

@@ -26,7 +26,8 @@ use Rattle.plain_model.specs.JobSteps.{stepped, is_moved}
 use Rattle.plain_model.specs.Legal.{IsPlannedIn}
 use Rattle.plain_model.specs.Refusing.{if_there}
 use Rattle.plain_model.specs.Worked.{small_key}
-use Rattle.model_examples.specs.Values.{site_a, site_b, keyed_pieces, job_at, job_piece, copying_image, fresh_image, copying_state, after_move, move_op}
+use Rattle.model_examples.specs.Values.{copying_image, fresh_image, copying_state, after_move, move_op}
+use Rattle.world_examples.specs.Examples.{site_a, site_b, keyed_pieces, job_at, job_piece}
 use Rattle.model_examples.proofs.Lookups.{entries_of, differ}
 use Rattle.model_examples.proofs.JobStates.{m_stands, job_stands, move_shows}
 

@@ -12,7 +12,8 @@ use Rattle.plain_model.specs.declared.replies.Reply.TheVariants as reply
 use Rattle.plain_model.specs.declared.replies.Refusal.TheVariants as refused
 use Rattle.plain_model.specs.Refusing.{refusal}
 use Rattle.plain_model.specs.Steps.{plain_step, attach, detach}
-use Rattle.model_examples.specs.Values.{site_a, empty_state, away_state}
+use Rattle.model_examples.specs.Values.{empty_state, away_state}
+use Rattle.world_examples.specs.Examples.{site_a}
 use Rattle.model_examples.proofs.NearStates.{is_away}
 use Rattle.model_examples.proofs.Planned.{no_entries}
 

@@ -9,7 +9,7 @@ use Rattle.plain_model.specs.declared.commands.Command.TheVariants as command
 use Rattle.plain_model.specs.declared.finish.RunStatus.{RunStatus}
 use Rattle.plain_model.specs.declared.history.Entry.{Entry}
 use Rattle.plain_model.specs.Headline.{script_of, answered_by, has_stopped, whole, InOrder, AllAnswered, EachOnceInOrder}
-use Rattle.model_examples.specs.Values.{map_n}
+use Rattle.world_examples.specs.Examples.{map_n}
 
 -- the commands of the entries
 abbrev pub asked_of : List Entry → List Asked

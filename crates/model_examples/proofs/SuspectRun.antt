@@ -17,7 +17,8 @@ use Rattle.plain_model.specs.Near.{Near}
 use Rattle.plain_model.specs.Timelines.{Happened, Entered, image_of}
 use Rattle.plain_model.proofs.NearLaws.{near_itself}
 use Rattle.plain_model.proofs.OwedLaws.{none_at_first}
-use Rattle.model_examples.specs.Values.{site_a, nothing_going, keyed_locals, locals_of}
+use Rattle.model_examples.specs.Values.{nothing_going, keyed_locals}
+use Rattle.world_examples.specs.Examples.{site_a, locals_of}
 use Rattle.model_examples.specs.Runs.{row_over, suspect_image, suspect_trail, cut_commit, clearing}
 use Rattle.model_examples.proofs.Lookups.{get_of, differ}
 use Rattle.model_examples.proofs.NearStates.{is_away, cut_everywhere}

@@ -16,7 +16,7 @@ use Rattle.cell_world.specs.declared.cells.Cell.{Cell}
 use Rattle.cell_world.specs.declared.cells.Cell.TheVariants as cell
 use Rattle.cell_world.proofs.SpanLaws.{same_is}
 use Rattle.plain_model.specs.Headline.{first_unknown, named_locations, IsFirstUnknown}
-use Rattle.model_examples.specs.Values.{site_a, site_b, away_of}
+use Rattle.world_examples.specs.Examples.{site_a, site_b, away_of}
 use Rattle.model_examples.specs.Runs.{unknown_store, site_c, site_d}
 use Rattle.model_examples.proofs.Lookups.{get_of}
 

@@ -21,7 +21,8 @@ use Rattle.plain_model.specs.declared.history.Entry.{Entry}
 use Rattle.plain_model.specs.Legal.{Going}
 use Rattle.plain_model.specs.Headline.{Manner, Causes, has_stopped, is_store_fault}
 use Rattle.plain_model.specs.Worked.{small_range, local_row_over}
-use Rattle.model_examples.specs.Values.{map_m, map_n, site_a, site_b, maps_m, away_of, make_map, answered, naming, silent, at_moment, trail_of, with_global, with_cells, local_cells}
+use Rattle.model_examples.specs.Values.{make_map, answered, naming, silent, at_moment, trail_of, with_global, with_cells, local_cells}
+use Rattle.world_examples.specs.Examples.{map_m, map_n, site_a, site_b, maps_m, away_of}
 
 -- ---- trails
 

@@ -3,7 +3,7 @@ use Rattle.std.specs.Prelude.{ℕ, ◌+◌, Bool, true, List, [], ◌∷◌, Som
 use Rattle.std.specs.FinMap as fin
 use Rattle.std.specs.FinSet as set
 use Rattle.cell_world.specs.Texts.{Text}
-use Rattle.cell_world.specs.Stores.{Store, empty_store, put, Maps, Mappings, Jobs, AwaySites, Locals, piece_key, local_key}
+use Rattle.cell_world.specs.Stores.{Store, empty_store, put, local_key}
 use Rattle.cell_world.specs.Images.{Image, Trail, Global, Shard, Happening, Committed, Wrote, empty_image, with_store}
 use Rattle.cell_world.specs.Plain.{PlainState, Held, Connections, holds_nothing, nobody}
 use Rattle.cell_world.specs.declared.cells.Away.{Away}
@@ -12,18 +12,13 @@ use Rattle.cell_world.specs.declared.cells.Cell.TheVariants as cell
 use Rattle.cell_world.specs.declared.cells.CellKey.TheVariants as at
 use Rattle.cell_world.specs.declared.cells.LocalRow.{LocalRow}
 use Rattle.cell_world.specs.declared.cells.RowName.{RowName}
-use Rattle.cell_world.specs.declared.cells.KeyType.{KeyType}
 use Rattle.cell_world.specs.declared.cells.KeyType.TheVariants.{Int}
-use Rattle.cell_world.specs.declared.cells.MapKind.{MapKind}
 use Rattle.cell_world.specs.declared.cells.MapKind.TheVariants as kind
-use Rattle.cell_world.specs.declared.cells.Status.{Status}
 use Rattle.cell_world.specs.declared.cells.Status.TheVariants.{Online, Offline}
 use Rattle.cell_world.specs.declared.operations.Piece.{Piece}
 use Rattle.cell_world.specs.declared.operations.JobRow.{JobRow}
 use Rattle.cell_world.specs.declared.operations.Op.{Op}
-use Rattle.cell_world.specs.declared.operations.Pieces.{Pieces}
 use Rattle.cell_world.specs.declared.operations.Extra.TheVariants as extra
-use Rattle.cell_world.specs.declared.operations.Phase.{Phase}
 use Rattle.cell_world.specs.declared.operations.Phase.TheVariants.{Idle, Copying, Moved}
 use Rattle.cell_world.specs.declared.spans.High.TheVariants.{At}
 use Rattle.cell_world.specs.declared.changes.Edit.{Edit}
@@ -40,22 +35,8 @@ use Rattle.plain_model.specs.JobSteps.{with_extra}
 use Rattle.plain_model.specs.Caches.{Learnt}
 use Rattle.plain_model.specs.Legal.{AllGoing}
 use Rattle.plain_model.specs.Steps.{exchanging, with_held, with_connection}
-use Rattle.plain_model.specs.Worked.{small_key, small_range, mapping_over, mapping_with}
-
--- ---- names and locations
-
-abbrev pub map_m : Text
-map_m = codes "m"
-
--- another name, of which no map stands
-abbrev pub map_n : Text
-map_n = codes "n"
-
-abbrev pub site_a : Text
-site_a = codes "s/a"
-
-abbrev pub site_b : Text
-site_b = codes "s/b"
+use Rattle.plain_model.specs.Worked.{small_key, small_range, mapping_over}
+use Rattle.world_examples.specs.Examples.{map_m, map_n, site_a, site_b, maps_m, mappings_of, jobs_of, away_of, locals_of, job_at, job_piece, no_pieces, one_piece, two_pieces}
 
 -- ---- commands and entries
 
@@ -84,27 +65,8 @@ made e before = record { entry = e; before = before }
 
 -- ---- tables: the entries are given in the order of their keys
 
--- the one map is `m`
-abbrev pub entries_m : List (Text × (MapKind × KeyType))
-entries_m = (map_m, (kind.Range, Int)) ∷ []
-
-abbrev pub maps_m : Maps
-maps_m = fin.from_sorted entries_m
-
-abbrev pub keyed_pieces : List Piece → List ((Text × Text) × Piece)
-keyed_pieces pieces = map (λ p. (piece_key p, p)) pieces
-
-abbrev pub mappings_of : List Piece → Mappings
-mappings_of pieces = fin.from_sorted (keyed_pieces pieces)
-
 abbrev pub numbered_jobs : List JobRow → List (ℕ × JobRow)
 numbered_jobs jobs = map (λ (job : JobRow). (job.number, job)) jobs
-
-abbrev pub jobs_of : List JobRow → Jobs
-jobs_of jobs = fin.from_sorted (numbered_jobs jobs)
-
-abbrev pub away_of : List (Text × Away) → AwaySites
-away_of sites = fin.from_sorted sites
 
 -- ---- states
 
@@ -129,8 +91,8 @@ abbrev pub with_map : PlainState → Text → PlainState
 with_map s name = record s { maps = fin.insert s.maps name (kind.Range, Int) }
 
 -- the map m with these mappings and jobs
-abbrev pub state_with : List Piece → List JobRow → PlainState
-state_with pieces jobs = record empty_state { maps = maps_m; mappings = mappings_of pieces; jobs = jobs_of jobs }
+abbrev pub state_with_jobs : List Piece → List JobRow → PlainState
+state_with_jobs pieces jobs = record empty_state { maps = maps_m; mappings = mappings_of pieces; jobs = jobs_of jobs }
 
 -- ---- sites that are away
 
@@ -144,9 +106,6 @@ holding s h = record s { held = with_held s.held site_a h }
 
 abbrev pub keyed_locals : List LocalRow → List ((Text × (Text × ℕ)) × LocalRow)
 keyed_locals rows = map (λ row. (local_key row, row)) rows
-
-abbrev pub locals_of : List LocalRow → Locals
-locals_of rows = fin.from_sorted (keyed_locals rows)
 
 -- these local rows, and no row
 abbrev pub local_rows : List LocalRow → Held
@@ -168,21 +127,13 @@ one_connection live = with_connection nobody 1 1 (Some (record { map = map_m; ke
 
 -- the mapping [0, 10) is online at `s/a`, and a connection to one of its keys is live or ended
 abbrev pub connected_state : Bool → PlainState
-connected_state live = record (state_with (mapping_over (small_range 0 10) Online ∷ []) []) { connections = one_connection live }
+connected_state live = record (state_with_jobs (mapping_over (small_range 0 10) Online ∷ []) []) { connections = one_connection live }
 
 -- ---- a job
 
--- job 1, which moves [0, 10) of m from `s/a` to `s/b` in batches of two rows; its cursor is at a small number
-abbrev pub job_at : ℕ → Phase → JobRow
-job_at cursor phase = record { number = 1; map = map_m; low = small_key 0; high = At (small_key 10); source = site_a; target = site_b; batch = 2; cursor = At (small_key cursor); phase = phase }
-
--- a mapping of m with the job's token
-abbrev pub job_piece : ℕ → ℕ → Text → Status → Piece
-job_piece low high location status = record (mapping_with (small_range low high) status (record { 0 = 1 })) { location = location }
-
 -- nothing is moved yet
 abbrev pub fresh_state : PlainState
-fresh_state = state_with (job_piece 0 10 site_a Online ∷ []) (job_at 0 Idle ∷ [])
+fresh_state = state_with_jobs (job_piece 0 10 site_a Online ∷ []) (job_at 0 Idle ∷ [])
 
 -- so it is while a connection to one of its keys is live or ended
 abbrev pub fresh_connected : Bool → PlainState
@@ -190,7 +141,7 @@ fresh_connected live = record fresh_state { connections = one_connection live }
 
 -- the batch [0, 5) is copied
 abbrev pub copying_state : PlainState
-copying_state = state_with (job_piece 0 5 site_a Offline ∷ job_piece 5 10 site_a Online ∷ []) (job_at 0 (Copying (At (small_key 5))) ∷ [])
+copying_state = state_with_jobs (job_piece 0 5 site_a Offline ∷ job_piece 5 10 site_a Online ∷ []) (job_at 0 (Copying (At (small_key 5))) ∷ [])
 
 -- the copied batch is moved by the next step
 abbrev pub after_move : PlainState
@@ -198,23 +149,23 @@ after_move = with_extra (exchanging copying_state (job_piece 0 5 site_a Offline 
 
 -- the batch is at the target, not online yet: the next step is its online
 abbrev pub moved_state : PlainState
-moved_state = state_with (job_piece 0 5 site_b Offline ∷ job_piece 5 10 site_a Online ∷ []) (job_at 0 (Moved (At (small_key 5))) ∷ [])
+moved_state = state_with_jobs (job_piece 0 5 site_b Offline ∷ job_piece 5 10 site_a Online ∷ []) (job_at 0 (Moved (At (small_key 5))) ∷ [])
 
 -- the batch is done
 abbrev pub between_state : PlainState
-between_state = state_with (job_piece 0 5 site_b Online ∷ job_piece 5 10 site_a Online ∷ []) (job_at 5 Idle ∷ [])
+between_state = state_with_jobs (job_piece 0 5 site_b Online ∷ job_piece 5 10 site_a Online ∷ []) (job_at 5 Idle ∷ [])
 
 -- the batch [3, 5) is done, and a merge is due
 abbrev pub merging_state : PlainState
-merging_state = state_with (job_piece 0 3 site_b Online ∷ job_piece 3 5 site_b Online ∷ job_piece 5 10 site_a Online ∷ []) (job_at 5 Idle ∷ [])
+merging_state = state_with_jobs (job_piece 0 3 site_b Online ∷ job_piece 3 5 site_b Online ∷ job_piece 5 10 site_a Online ∷ []) (job_at 5 Idle ∷ [])
 
 -- all is moved: the next step is the finish
 abbrev pub all_moved_state : PlainState
-all_moved_state = state_with (job_piece 0 10 site_b Online ∷ []) (job_at 10 Idle ∷ [])
+all_moved_state = state_with_jobs (job_piece 0 10 site_b Online ∷ []) (job_at 10 Idle ∷ [])
 
 -- the job is gone
 abbrev pub finished_state : PlainState
-finished_state = state_with (record (mapping_over (small_range 0 10) Online) { location = site_b } ∷ []) []
+finished_state = state_with_jobs (record (mapping_over (small_range 0 10) Online) { location = site_b } ∷ []) []
 
 -- ---- images
 
@@ -243,15 +194,6 @@ abbrev pub detached_store : Store
 detached_store = record empty_store { away = away_of ((site_a, Detached) ∷ []) }
 
 -- ---- operations
-
-abbrev pub no_pieces : Pieces
-no_pieces = record { one = None; two = None }
-
-abbrev pub one_piece : Piece → Pieces
-one_piece p = record { one = Some p; two = None }
-
-abbrev pub two_pieces : Piece → Piece → Pieces
-two_pieces p q = record { one = Some p; two = Some q }
 
 -- an add of a range of m at `s/a`
 abbrev pub add_op : ℕ → ℕ → ℕ → Op
@@ -347,7 +289,7 @@ second_entry = at_moment (answered 1 (make_map map_n) reply.Ok) 2
 
 -- the mapping [0, 10) of m is online at `s/a`
 abbrev pub owned_state : PlainState
-owned_state = state_with (mapping_over (small_range 0 10) Online ∷ []) []
+owned_state = state_with_jobs (mapping_over (small_range 0 10) Online ∷ []) []
 
 -- a span of m at `s/a`, learnt at a place
 abbrev pub learnt : ℕ → ℕ → ℕ → Learnt

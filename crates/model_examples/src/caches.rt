@@ -10,7 +10,8 @@ ghost use Rattle.plain_model.specs.declared.replies.Refusal.TheVariants as refus
 ghost use Rattle.plain_model.specs.declared.replies.Reply.TheVariants as reply;
 ghost use Rattle.plain_model.specs.Follows.{Follows, Drops};
 ghost use Rattle.plain_model.specs.Worked.{small_key, small_range, mapping_over};
-ghost use Rattle.model_examples.specs.Values.{map_m, map_n, site_a, site_b, answered, made, away_of, empty_state, owned_state, state_with, finished_state, learnt, open_5, opened, opened_past};
+ghost use Rattle.model_examples.specs.Values.{answered, made, empty_state, owned_state, state_with_jobs, finished_state, learnt, open_5, opened, opened_past};
+ghost use Rattle.world_examples.specs.Examples.{map_m, map_n, site_a, site_b, away_of};
 
 /// What an `open` that looks for the owner of a key makes of the cache.
 pub fn learning()
@@ -59,7 +60,7 @@ pub fn known()
     ensures learnt_before { Follows opened_past owned_state (answered 1 (command.Peek map_m (codes "7")) (reply.Known Int (small_range 0 10) site_a 0)) owned_state (Some (reply.Known Int (small_range 0 10) site_a 0)) }
     ensures dropped_by_another_session { Follows (made (answered 2 (command.Unmap map_m) reply.Ok) owned_state ∷ opened_past) owned_state (answered 1 (command.Peek map_m (codes "7")) (reply.Known Int (small_range 0 10) site_a 0)) owned_state (Some (reply.Known Int (small_range 0 10) site_a 0)) }
     ensures never_dropped_by_itself { Follows (made (answered 1 (command.Unmap map_m) reply.Ok) owned_state ∷ opened_past) owned_state (answered 1 (command.Peek map_m (codes "7")) (reply.Known Int (small_range 0 10) site_a 0)) owned_state (Some (reply.Known Int (small_range 0 10) site_a 0)) → ⊥ }
-    ensures never_lost_by_itself { Follows (made (answered 1 open_5 (reply.Refused refused.NoMapping)) (state_with [] []) ∷ opened_past) (state_with [] []) (answered 1 (command.Peek map_m (codes "7")) (reply.Known Int (small_range 0 10) site_a 0)) (state_with [] []) (Some (reply.Known Int (small_range 0 10) site_a 0)) → ⊥ }
+    ensures never_lost_by_itself { Follows (made (answered 1 open_5 (reply.Refused refused.NoMapping)) (state_with_jobs [] []) ∷ opened_past) (state_with_jobs [] []) (answered 1 (command.Peek map_m (codes "7")) (reply.Known Int (small_range 0 10) site_a 0)) (state_with_jobs [] []) (Some (reply.Known Int (small_range 0 10) site_a 0)) → ⊥ }
     ensures never_replaced_by_itself { Follows (made (answered 1 open_5 (reply.At site_b)) finished_state ∷ opened_past) finished_state (answered 1 (command.Peek map_m (codes "7")) (reply.Known Int (small_range 0 10) site_a 0)) finished_state (Some (reply.Known Int (small_range 0 10) site_a 0)) → ⊥ }
     ensures replaced_by_another_session { Follows (made (answered 2 open_5 (reply.At site_b)) finished_state ∷ opened_past) finished_state (answered 1 (command.Peek map_m (codes "7")) (reply.Known Int (small_range 0 10) site_a 0)) finished_state (Some (reply.Known Int (small_range 0 10) site_a 0)) }
     ensures never_what_was_not_learnt { Follows [] owned_state (answered 1 (command.Peek map_m (codes "7")) (reply.Known Int (small_range 0 10) site_a 0)) owned_state (Some (reply.Known Int (small_range 0 10) site_a 0)) → ⊥ }
@@ -72,7 +73,7 @@ pub fn known()
 /// An entry drops a span that is gone after it, one that overlaps what it learnt, and those of the map that it unmapped.
 pub fn drops()
     ensures with_its_map { Drops (made (answered 1 (command.Unmap map_m) reply.Ok) owned_state) opened_past (learnt 0 10 0) }
-    ensures with_its_owner { Drops (made (answered 1 open_5 (reply.Refused refused.NoMapping)) (state_with [] [])) opened_past (learnt 0 10 0) }
+    ensures with_its_owner { Drops (made (answered 1 open_5 (reply.Refused refused.NoMapping)) (state_with_jobs [] [])) opened_past (learnt 0 10 0) }
     ensures for_another { Drops (made (answered 1 open_5 (reply.At site_b)) finished_state) opened_past (learnt 0 10 0) }
     ensures for_another_where_it_was_forgotten { Drops (made (answered 1 open_5 (reply.At site_a)) owned_state) [] (learnt 5 20 0) }
     ensures never_by_a_refused_unmap { Drops (made (answered 1 (command.Unmap map_m) (reply.Refused refused.MapInUse)) owned_state) opened_past (learnt 0 10 0) → ⊥ }

@@ -14,7 +14,8 @@ ghost use Rattle.plain_model.specs.declared.replies.Refusal.TheVariants as refus
 ghost use Rattle.plain_model.specs.Follows.{Follows};
 ghost use Rattle.plain_model.specs.Steps.{plain_step, attach, detach};
 ghost use Rattle.plain_model.specs.Worked.{small_key};
-ghost use Rattle.model_examples.specs.Values.{map_m, map_n, away_of, away_state, holding, one_row, connected_state, site_a, site_b, make_map, answered, silent, made, empty_state, with_map, job_at, job_piece, fresh_state, copying_state, after_move, after_split, fresh_connected, moved_state, between_state, merging_state, all_moved_state, finished_state};
+ghost use Rattle.model_examples.specs.Values.{away_state, holding, one_row, connected_state, make_map, answered, silent, made, empty_state, with_map, fresh_state, copying_state, after_move, after_split, fresh_connected, moved_state, between_state, merging_state, all_moved_state, finished_state};
+ghost use Rattle.world_examples.specs.Examples.{map_m, map_n, away_of, site_a, site_b, job_at, job_piece};
 
 /// An answer or a refusal is the plain step's, and so is the state.
 pub fn plain_answers()

@@ -17,7 +17,8 @@ ghost use Rattle.plain_model.specs.declared.replies.Reply.TheVariants as reply;
 ghost use Rattle.plain_model.specs.Headline.{whole, LeavesUnknown, SoundAtEachMoment, IsLeftGoing, IsLegalHistory, OnlyWhatHappened, InOrder, EachOnceInOrder, EndsAnswered, EndsWithMemory, named_locations, IsFirstUnknown, StatusCause, ComesByInput, ComesByOpening, KeepsToStatus, StatusHasCause, GoesOnFrom, Headline, FollowsTo, IsLegalByStates, HeadlineAlone};
 ghost use Rattle.plain_model.specs.Written.{EachReply};
 ghost use Rattle.plain_model.specs.Worked.{small_range, mapping_over};
-ghost use Rattle.model_examples.specs.Values.{move_op, job_at, row_m, map_commit, image_m, map_trail, answered, map_m, map_n, site_a, site_b, make_map, two_sites, with_global, empty_state, with_map, at_moment, map_entry, second_entry, trail_of};
+ghost use Rattle.model_examples.specs.Values.{move_op, row_m, map_commit, image_m, map_trail, answered, make_map, two_sites, with_global, empty_state, with_map, at_moment, map_entry, second_entry, trail_of};
+ghost use Rattle.world_examples.specs.Examples.{job_at, map_m, map_n, site_a, site_b};
 ghost use Rattle.model_examples.specs.Runs.{nothing_done, list_trail, list_asked, list_refused, silent_step, ok_line, step_done, map_answered, asks, two_asked, until_faults, going_at, world_of, with_faults, with_sink_fault, nothing_wrong, wrong_words, wrong_line, too_many_bytes, source_failed, without_number, unknown_store, site_c, site_d};
 
 // ---- sound, legal, and written

@@ -22,7 +22,8 @@ ghost use Rattle.plain_model.specs.OnTrail.{NoneOwed};
 ghost use Rattle.plain_model.specs.Legal.{Legal, Unfolds, IsAtRest, NamesItsOwn, AreNamed, KeepsCounter, KeepsPromises, MayHappen, IsPlanned, IsPlannedIn, Going, AllGoing};
 ghost use Rattle.plain_model.specs.Timelines.{Happened, Entered};
 ghost use Rattle.plain_model.specs.Worked.{small_key, small_range, local_row_over};
-ghost use Rattle.model_examples.specs.Values.{add_0_10, add_op, after_move, after_split, all_moved_state, answered, at_moment, away_of, closing, copying_image, copying_state, copying_trail, detached_store, finished_state, fresh_image, fresh_state, job_at, local_cells, make_map, map_commit, map_entry, map_m, map_trail, maps_m, move_commit, move_op, naming, nothing_going, silent, site_a, split_op, state_with, trail_of, tried, two_sites, with_global};
+ghost use Rattle.model_examples.specs.Values.{add_0_10, add_op, after_move, after_split, all_moved_state, answered, at_moment, closing, copying_image, copying_state, copying_trail, detached_store, finished_state, fresh_image, fresh_state, local_cells, make_map, map_commit, map_entry, map_trail, move_commit, move_op, naming, nothing_going, silent, split_op, state_with_jobs, trail_of, tried, two_sites, with_global};
+ghost use Rattle.world_examples.specs.Examples.{away_of, job_at, map_m, maps_m, site_a};
 ghost use Rattle.model_examples.specs.Runs.{silent_step, named_step, suspect_image, suspect_trail, cut_commit, clearing};
 
 /// Legal histories: an empty one, a `map` with its commit and its line, and two refused commands.
@@ -164,16 +165,16 @@ pub fn planned_in_a_run()
 
 /// An entry names no operation, or one that was tried for its command since its session's previous entry, made or not.
 pub fn entries_name_their_own()
-    ensures none { NamesItsOwn two_sites [] (state_with [] []) (answered 1 add_0_10 reply.Ok) }
-    ensures its_own { NamesItsOwn two_sites (Happened (tried (add_op 1 0 10) true) ∷ []) (state_with [] []) (naming (answered 1 add_0_10 reply.Ok) 1) }
-    ensures its_own_not_made { NamesItsOwn two_sites (Happened (tried (add_op 1 0 10) false) ∷ []) (state_with [] []) (naming (answered 1 add_0_10 reply.Fault) 1) }
-    ensures after_another_session { NamesItsOwn two_sites (Entered (answered 2 (make_map map_m) reply.Fault) ∷ Happened (tried (add_op 1 0 10) true) ∷ []) (state_with [] []) (naming (answered 1 add_0_10 reply.Ok) 1) }
+    ensures none { NamesItsOwn two_sites [] (state_with_jobs [] []) (answered 1 add_0_10 reply.Ok) }
+    ensures its_own { NamesItsOwn two_sites (Happened (tried (add_op 1 0 10) true) ∷ []) (state_with_jobs [] []) (naming (answered 1 add_0_10 reply.Ok) 1) }
+    ensures its_own_not_made { NamesItsOwn two_sites (Happened (tried (add_op 1 0 10) false) ∷ []) (state_with_jobs [] []) (naming (answered 1 add_0_10 reply.Fault) 1) }
+    ensures after_another_session { NamesItsOwn two_sites (Entered (answered 2 (make_map map_m) reply.Fault) ∷ Happened (tried (add_op 1 0 10) true) ∷ []) (state_with_jobs [] []) (naming (answered 1 add_0_10 reply.Ok) 1) }
     ensures of_a_job { NamesItsOwn copying_image (Happened (tried move_op false) ∷ []) copying_state (naming (answered 1 (command.Step 1) reply.Fault) 1) }
-    ensures never_untried { NamesItsOwn two_sites [] (state_with [] []) (naming (answered 1 add_0_10 reply.Ok) 1) → ⊥ }
-    ensures never_another_number { NamesItsOwn two_sites (Happened (tried (add_op 1 0 10) true) ∷ []) (state_with [] []) (naming (answered 1 add_0_10 reply.Ok) 2) → ⊥ }
-    ensures never_before_its_previous_entry { NamesItsOwn two_sites (Entered (answered 1 (make_map map_m) reply.Fault) ∷ Happened (tried (add_op 1 0 10) true) ∷ []) (state_with [] []) (naming (answered 1 add_0_10 reply.Ok) 1) → ⊥ }
-    ensures never_anothers { NamesItsOwn two_sites (Happened (tried (add_op 1 5 15) true) ∷ []) (state_with [] []) (naming (answered 1 add_0_10 reply.Ok) 1) → ⊥ }
-    ensures never_by_a_command_without { NamesItsOwn two_sites (Happened (tried (add_op 1 0 10) true) ∷ []) (state_with [] []) (naming (answered 1 (make_map map_m) reply.Ok) 1) → ⊥ }
+    ensures never_untried { NamesItsOwn two_sites [] (state_with_jobs [] []) (naming (answered 1 add_0_10 reply.Ok) 1) → ⊥ }
+    ensures never_another_number { NamesItsOwn two_sites (Happened (tried (add_op 1 0 10) true) ∷ []) (state_with_jobs [] []) (naming (answered 1 add_0_10 reply.Ok) 2) → ⊥ }
+    ensures never_before_its_previous_entry { NamesItsOwn two_sites (Entered (answered 1 (make_map map_m) reply.Fault) ∷ Happened (tried (add_op 1 0 10) true) ∷ []) (state_with_jobs [] []) (naming (answered 1 add_0_10 reply.Ok) 1) → ⊥ }
+    ensures never_anothers { NamesItsOwn two_sites (Happened (tried (add_op 1 5 15) true) ∷ []) (state_with_jobs [] []) (naming (answered 1 add_0_10 reply.Ok) 1) → ⊥ }
+    ensures never_by_a_command_without { NamesItsOwn two_sites (Happened (tried (add_op 1 0 10) true) ∷ []) (state_with_jobs [] []) (naming (answered 1 (make_map map_m) reply.Ok) 1) → ⊥ }
 {}
 
 /// No entry is owed where each open number stands in the log. A made commit that takes the log cell of a live operation away, and a try that wasn't made, owe an entry that names it, at once.

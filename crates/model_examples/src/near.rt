@@ -4,7 +4,8 @@ ghost use Rattle.cell_world.specs.declared.cells.Away.TheVariants.{Detached, Sus
 ghost use Rattle.cell_world.specs.declared.cells.Status.TheVariants.{Online, Offline};
 ghost use Rattle.plain_model.specs.Near.{Near};
 ghost use Rattle.plain_model.specs.Worked.{small_range, local_row_over};
-ghost use Rattle.model_examples.specs.Values.{map_n, empty_state, with_map, away_state, holding, local_rows, one_row};
+ghost use Rattle.model_examples.specs.Values.{empty_state, with_map, away_state, holding, local_rows, one_row};
+ghost use Rattle.world_examples.specs.Examples.{map_n};
 
 /// What a detached site holds is free, and at a suspect one how its local rows are cut.
 pub fn near_states()

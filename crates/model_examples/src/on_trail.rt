@@ -10,7 +10,8 @@ ghost use Rattle.plain_model.specs.declared.replies.Reply.TheVariants as reply;
 ghost use Rattle.plain_model.specs.OnTrail.{OnTrail};
 ghost use Rattle.plain_model.specs.Steps.{attach};
 ghost use Rattle.plain_model.specs.Timelines.{Happened, Entered};
-ghost use Rattle.model_examples.specs.Values.{map_m, make_map, site_a, answered, naming, empty_state, away_state, holding, one_row, one_connection, connected_state, state_with, copying_state, two_sites, with_global, with_cells, row_cells, add_op, offline_op, tried, fresh_connected, job_offline_op, add_0_10, offline_5};
+ghost use Rattle.model_examples.specs.Values.{make_map, answered, naming, empty_state, away_state, holding, one_row, one_connection, connected_state, state_with_jobs, copying_state, two_sites, with_global, with_cells, row_cells, add_op, offline_op, tried, fresh_connected, job_offline_op, add_0_10, offline_5};
+ghost use Rattle.world_examples.specs.Examples.{map_m, site_a};
 
 /// An accepted `detach` leaves at its site what stood there just before its commit.
 pub fn held_after_detach()
@@ -28,12 +29,12 @@ pub fn held_after_attach()
 
 /// `pending P` names the least live operation in the way: here of `add m 0 10`.
 pub fn pending_in_the_way()
-    ensures of_one { OnTrail two_sites (Happened (tried (add_op 1 5 15) true) ∷ []) (state_with [] []) (answered 2 add_0_10 (reply.Pending 1)) (state_with [] []) (Some (reply.Pending 1)) }
-    ensures never_the_greater { OnTrail two_sites (Happened (tried (add_op 2 0 5) true) ∷ Happened (tried (add_op 1 5 15) true) ∷ []) (state_with [] []) (answered 2 add_0_10 (reply.Pending 2)) (state_with [] []) (Some (reply.Pending 2)) → ⊥ }
-    ensures never_one_beside { OnTrail two_sites (Happened (tried (add_op 1 10 15) true) ∷ []) (state_with [] []) (answered 2 add_0_10 (reply.Pending 1)) (state_with [] []) (Some (reply.Pending 1)) → ⊥ }
-    ensures never_one_that_an_entry_named { OnTrail two_sites (Entered (naming (answered 1 add_0_10 reply.Fault) 1) ∷ Happened (tried (add_op 1 5 15) true) ∷ []) (state_with [] []) (answered 2 add_0_10 (reply.Pending 1)) (state_with [] []) (Some (reply.Pending 1)) → ⊥ }
-    ensures never_one_that_was_not_logged { OnTrail two_sites (Happened (tried (add_op 1 5 15) false) ∷ []) (state_with [] []) (answered 2 add_0_10 (reply.Pending 1)) (state_with [] []) (Some (reply.Pending 1)) → ⊥ }
-    ensures never_one_of_an_earlier_run { OnTrail (with_global (record empty_store { log = fin.insert fin.empty 1 (add_op 1 5 15) })) [] (state_with [] []) (answered 2 add_0_10 (reply.Pending 1)) (state_with [] []) (Some (reply.Pending 1)) → ⊥ }
+    ensures of_one { OnTrail two_sites (Happened (tried (add_op 1 5 15) true) ∷ []) (state_with_jobs [] []) (answered 2 add_0_10 (reply.Pending 1)) (state_with_jobs [] []) (Some (reply.Pending 1)) }
+    ensures never_the_greater { OnTrail two_sites (Happened (tried (add_op 2 0 5) true) ∷ Happened (tried (add_op 1 5 15) true) ∷ []) (state_with_jobs [] []) (answered 2 add_0_10 (reply.Pending 2)) (state_with_jobs [] []) (Some (reply.Pending 2)) → ⊥ }
+    ensures never_one_beside { OnTrail two_sites (Happened (tried (add_op 1 10 15) true) ∷ []) (state_with_jobs [] []) (answered 2 add_0_10 (reply.Pending 1)) (state_with_jobs [] []) (Some (reply.Pending 1)) → ⊥ }
+    ensures never_one_that_an_entry_named { OnTrail two_sites (Entered (naming (answered 1 add_0_10 reply.Fault) 1) ∷ Happened (tried (add_op 1 5 15) true) ∷ []) (state_with_jobs [] []) (answered 2 add_0_10 (reply.Pending 1)) (state_with_jobs [] []) (Some (reply.Pending 1)) → ⊥ }
+    ensures never_one_that_was_not_logged { OnTrail two_sites (Happened (tried (add_op 1 5 15) false) ∷ []) (state_with_jobs [] []) (answered 2 add_0_10 (reply.Pending 1)) (state_with_jobs [] []) (Some (reply.Pending 1)) → ⊥ }
+    ensures never_one_of_an_earlier_run { OnTrail (with_global (record empty_store { log = fin.insert fin.empty 1 (add_op 1 5 15) })) [] (state_with_jobs [] []) (answered 2 add_0_10 (reply.Pending 1)) (state_with_jobs [] []) (Some (reply.Pending 1)) → ⊥ }
 {}
 
 /// `full` for want of numbers needs that the counter says 2^63.

@@ -3,7 +3,7 @@ use Rattle.std.specs.FinMap as fin
 use Rattle.cell_world.specs.ByteOrder.{byte_cmp}
 use Rattle.cell_world.specs.declared.cells.KeyType.{KeyType}
 use Rattle.cell_world.specs.declared.cells.MapKind.{MapKind}
-use Rattle.model_examples.specs.Values.{map_m}
+use Rattle.world_examples.specs.Examples.{map_m}
 use Rattle.model_examples.proofs.Learning.{opens_by_no_key, opens, opens_offline}
 use Rattle.model_examples.proofs.caches.cache_after_entries.Goals as goal
 

@@ -3,7 +3,8 @@ use Rattle.std.specs.Prelude.{codes}
 use Rattle.cell_world.specs.Lists.{IsOneOf}
 use Rattle.plain_model.specs.Caches.{Cache, Learnt}
 use Rattle.plain_model.specs.declared.commands.Command.TheVariants as command
-use Rattle.model_examples.specs.Values.{map_m, learnt}
+use Rattle.model_examples.specs.Values.{learnt}
+use Rattle.world_examples.specs.Examples.{map_m}
 use Rattle.model_examples.proofs.Learning.{opens, only_known, drops_lost, drops_replaced}
 use Rattle.model_examples.proofs.caches.drops.Goals as goal
 

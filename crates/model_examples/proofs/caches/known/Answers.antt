@@ -6,7 +6,7 @@ use Rattle.cell_world.specs.KeyForms.{normal_of}
 use Rattle.cell_world.specs.declared.cells.KeyType.TheVariants.{Int}
 use Rattle.plain_model.specs.Caches.{Learnt}
 use Rattle.plain_model.specs.Worked.{small_key, small_range}
-use Rattle.model_examples.specs.Values.{site_a}
+use Rattle.world_examples.specs.Examples.{site_a}
 use Rattle.model_examples.proofs.Lookups.{differ}
 use Rattle.model_examples.proofs.Learning.{drops_lost, drops_replaced, is_known, only_known, word_of, key_7, key_10}
 use Rattle.model_examples.proofs.caches.known.Goals as goal

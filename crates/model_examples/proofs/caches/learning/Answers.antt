@@ -3,7 +3,7 @@ use Rattle.std.specs.FinMap as fin
 use Rattle.cell_world.specs.ByteOrder.{byte_cmp}
 use Rattle.cell_world.specs.declared.cells.Away.{Away}
 use Rattle.cell_world.specs.declared.cells.Away.TheVariants.{Detached}
-use Rattle.model_examples.specs.Values.{site_a}
+use Rattle.world_examples.specs.Examples.{site_a}
 use Rattle.model_examples.proofs.NearStates.{is_away}
 use Rattle.model_examples.proofs.caches.learning.Goals as goal
 

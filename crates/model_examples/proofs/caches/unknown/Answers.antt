@@ -5,7 +5,8 @@ use Rattle.cell_world.specs.KeyForms.{normal_of}
 use Rattle.cell_world.specs.declared.cells.KeyType.TheVariants.{Int}
 use Rattle.plain_model.specs.Caches.{Learnt, knows}
 use Rattle.plain_model.specs.Worked.{small_key}
-use Rattle.model_examples.specs.Values.{map_m, learnt}
+use Rattle.model_examples.specs.Values.{learnt}
+use Rattle.world_examples.specs.Examples.{map_m}
 use Rattle.model_examples.proofs.Learning.{is_known, only_known, name_of, word_of, key_5, key_10}
 use Rattle.model_examples.proofs.caches.unknown.Goals as goal
 

@@ -9,7 +9,8 @@ use Rattle.cell_world.specs.declared.operations.Phase.TheVariants.{Idle, Copying
 use Rattle.cell_world.specs.declared.spans.High.TheVariants.{At}
 use Rattle.plain_model.specs.Refusing.{type_of_map}
 use Rattle.plain_model.specs.Worked.{small_key}
-use Rattle.model_examples.specs.Values.{site_a, site_b, job_at, job_piece, keyed_pieces, between_state, merging_state}
+use Rattle.model_examples.specs.Values.{between_state, merging_state}
+use Rattle.world_examples.specs.Examples.{site_a, site_b, job_at, job_piece, keyed_pieces}
 use Rattle.model_examples.proofs.Lookups.{entries_of, differ}
 use Rattle.model_examples.proofs.JobStates.{m_stands, job_stands, asked_for, n_is_more}
 use Rattle.model_examples.proofs.follows.cursors.Goals as goal

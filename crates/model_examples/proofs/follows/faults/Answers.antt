@@ -1,6 +1,7 @@
 use Rattle.std.proofs.Common.{refl, sym, ap, ◌∙◌, inl, inr, ⊎_elim}
 use Rattle.cell_world.specs.Plain.{holds_nothing}
-use Rattle.model_examples.specs.Values.{map_n, empty_state}
+use Rattle.model_examples.specs.Values.{empty_state}
+use Rattle.world_examples.specs.Examples.{map_n}
 use Rattle.model_examples.proofs.Lookups.{differ}
 use Rattle.model_examples.proofs.Maps.{makes_m, makes_m_once, m_is_more, m_is_not_n, has_map, has_it, has_none}
 use Rattle.model_examples.proofs.follows.faults.Goals as goal

@@ -9,7 +9,8 @@ use Rattle.cell_world.specs.declared.operations.Phase.TheVariants.{Idle, Copying
 use Rattle.cell_world.specs.declared.spans.High.TheVariants.{At}
 use Rattle.plain_model.specs.Refusing.{if_there}
 use Rattle.plain_model.specs.Worked.{small_key}
-use Rattle.model_examples.specs.Values.{site_a, job_piece, one_connection, map_n, entries_m, job_at, with_map, copying_state, after_move, between_state}
+use Rattle.model_examples.specs.Values.{one_connection, with_map, copying_state, after_move, between_state}
+use Rattle.world_examples.specs.Examples.{site_a, job_piece, map_n, entries_m, job_at}
 use Rattle.model_examples.proofs.Lookups.{get_of, differ}
 use Rattle.model_examples.proofs.Maps.{has_map, has_it}
 use Rattle.cell_world.specs.declared.cells.Status.TheVariants.{Online}

@@ -4,7 +4,8 @@ use Rattle.cell_world.specs.ByteOrder.{byte_cmp}
 use Rattle.cell_world.specs.Plain.{PlainState, holds_nothing}
 use Rattle.plain_model.specs.declared.commands.Command.TheVariants as command
 use Rattle.plain_model.specs.JobSteps.{with_ended}
-use Rattle.model_examples.specs.Values.{map_m, map_n, entries_m, with_map, connected_state}
+use Rattle.model_examples.specs.Values.{with_map, connected_state}
+use Rattle.world_examples.specs.Examples.{map_m, map_n, entries_m}
 use Rattle.model_examples.proofs.Lookups.{get_of, differ}
 use Rattle.model_examples.proofs.Maps.{has_map, has_it}
 use Rattle.model_examples.proofs.Faults.{keeps, is_live, owner_of_5, ends_it}

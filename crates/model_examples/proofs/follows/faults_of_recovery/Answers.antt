@@ -4,7 +4,8 @@ use Rattle.cell_world.specs.declared.cells.Away.TheVariants.{Detached, Suspect}
 use Rattle.plain_model.specs.declared.commands.Command.TheVariants as command
 use Rattle.plain_model.specs.Near.{Near}
 use Rattle.plain_model.proofs.NearLaws.{near_itself}
-use Rattle.model_examples.specs.Values.{map_n, site_a, empty_state, away_state, with_map, one_row}
+use Rattle.model_examples.specs.Values.{empty_state, away_state, with_map, one_row}
+use Rattle.world_examples.specs.Examples.{map_n, site_a}
 use Rattle.model_examples.proofs.Maps.{has_map, has_it, has_none}
 use Rattle.model_examples.proofs.NearStates.{near_maps, detached_holds}
 use Rattle.model_examples.proofs.Faults.{keeps}

@@ -12,7 +12,8 @@ use Rattle.plain_model.specs.declared.replies.Reply.TheVariants as reply
 use Rattle.plain_model.specs.declared.replies.Refusal.TheVariants as refused
 use Rattle.plain_model.specs.Refusing.{refusal}
 use Rattle.plain_model.specs.Steps.{refused_or_done}
-use Rattle.model_examples.specs.Values.{map_n, make_map, site_a, site_b, job_at, job_piece, keyed_pieces, empty_state}
+use Rattle.model_examples.specs.Values.{make_map, empty_state}
+use Rattle.world_examples.specs.Examples.{map_n, site_a, site_b, job_at, job_piece, keyed_pieces}
 use Rattle.model_examples.proofs.Lookups.{entries_of}
 use Rattle.model_examples.proofs.Maps.{makes_m}
 use Rattle.model_examples.proofs.JobStates.{job_stands, m_stands, n_is_more, step_accepted, step_answers}

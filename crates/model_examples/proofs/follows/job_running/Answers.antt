@@ -4,7 +4,7 @@ use Rattle.std.specs.FinMap as fin
 use Rattle.cell_world.specs.declared.cells.Status.TheVariants.{Online}
 use Rattle.cell_world.specs.declared.operations.JobRow.{JobRow}
 use Rattle.cell_world.specs.declared.operations.Phase.TheVariants.{Idle}
-use Rattle.model_examples.specs.Values.{site_a, job_at, job_piece}
+use Rattle.world_examples.specs.Examples.{site_a, job_at, job_piece}
 use Rattle.model_examples.proofs.JobStates.{job_stands, n_is_more}
 use Rattle.model_examples.proofs.follows.job_running.Goals as goal
 

@@ -4,7 +4,7 @@ use Rattle.cell_world.specs.declared.cells.Status.TheVariants.{Online, Offline}
 use Rattle.cell_world.specs.declared.operations.Phase.TheVariants.{Idle, Moved}
 use Rattle.cell_world.specs.declared.spans.High.TheVariants.{At}
 use Rattle.plain_model.specs.Worked.{small_key, small_range, mapping_over}
-use Rattle.model_examples.specs.Values.{site_a, site_b, job_piece, keyed_pieces}
+use Rattle.world_examples.specs.Examples.{site_a, site_b, job_piece, keyed_pieces}
 use Rattle.model_examples.proofs.Lookups.{entries_of}
 use Rattle.model_examples.proofs.JobStates.{m_stands, job_stands, n_is_more}
 use Rattle.model_examples.proofs.follows.jobs_done.Goals as goal

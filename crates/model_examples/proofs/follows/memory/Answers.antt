@@ -4,7 +4,8 @@ use Rattle.cell_world.specs.Orders.{row_cmp}
 use Rattle.cell_world.specs.Plain.{PlainState}
 use Rattle.cell_world.specs.declared.cells.Away.TheVariants.{Detached, Suspect}
 use Rattle.plain_model.proofs.NearLaws.{near_itself}
-use Rattle.model_examples.specs.Values.{map_n, site_a, away_state, one_row, row_m}
+use Rattle.model_examples.specs.Values.{away_state, one_row, row_m}
+use Rattle.world_examples.specs.Examples.{map_n, site_a}
 use Rattle.model_examples.proofs.Lookups.{get_of, differ}
 use Rattle.model_examples.proofs.Maps.{has_it, has_none, m_is_more}
 use Rattle.model_examples.proofs.NearStates.{near_maps, detached_holds}

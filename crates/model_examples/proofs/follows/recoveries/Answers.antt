@@ -5,7 +5,8 @@ use Rattle.cell_world.specs.declared.cells.Away.TheVariants.{Detached, Suspect}
 use Rattle.cell_world.proofs.StoreLaws.{get-insert_same}
 use Rattle.plain_model.specs.declared.replies.Reply.TheVariants as reply
 use Rattle.plain_model.specs.declared.replies.Refusal.TheVariants as refused
-use Rattle.model_examples.specs.Values.{site_a, empty_state, away_state, one_row}
+use Rattle.model_examples.specs.Values.{empty_state, away_state, one_row}
+use Rattle.world_examples.specs.Examples.{site_a}
 use Rattle.model_examples.proofs.NearStates.{is_away}
 use Rattle.model_examples.proofs.Recoveries.{detaches, attaches, attached_already}
 use Rattle.model_examples.proofs.follows.recoveries.Goals as goal

@@ -12,7 +12,8 @@ use Rattle.plain_model.specs.declared.replies.Refusal.TheVariants as refused
 use Rattle.plain_model.specs.JobSteps.{is_moved, is_finish_step}
 use Rattle.plain_model.specs.Refusing.{if_there, AcceptsJob}
 use Rattle.plain_model.specs.Worked.{small_key}
-use Rattle.model_examples.specs.Values.{job_at, job_piece, keyed_pieces, site_a, site_b, away_of, all_moved_state}
+use Rattle.model_examples.specs.Values.{all_moved_state}
+use Rattle.world_examples.specs.Examples.{job_at, job_piece, keyed_pieces, site_a, site_b, away_of}
 use Rattle.model_examples.proofs.Lookups.{differ, entries_of}
 use Rattle.model_examples.proofs.NearStates.{is_away}
 use Rattle.model_examples.proofs.JobStates.{splits_at_3, no_job, job_stands, moves, only_moves, move_shows, is_batch_moved}

@@ -1,7 +1,8 @@
 use Rattle.std.proofs.Common.{◌≡◌, ◌<◌, arith, true, false, true≢false, refl, sym, [], ◌∷◌}
 use Rattle.plain_model.specs.declared.finish.RunStatus.TheVariants as status
 use Rattle.plain_model.specs.declared.replies.Reply.TheVariants as reply
-use Rattle.model_examples.specs.Values.{map_m, map_n, make_map, map_entry, second_entry}
+use Rattle.model_examples.specs.Values.{make_map, map_entry, second_entry}
+use Rattle.world_examples.specs.Examples.{map_m, map_n}
 use Rattle.model_examples.specs.Runs.{asks, two_asked, map_answered}
 use Rattle.model_examples.proofs.Served.{serves, in_order}
 use Rattle.model_examples.proofs.headline.each_once_in_order.Goals as goal

@@ -1,6 +1,7 @@
 use Rattle.std.proofs.Common.{refl, sym, ap, ◌∙◌}
 use Rattle.cell_world.specs.Plain.{holds_nothing}
-use Rattle.model_examples.specs.Values.{map_m, empty_state, with_map}
+use Rattle.model_examples.specs.Values.{empty_state, with_map}
+use Rattle.world_examples.specs.Examples.{map_m}
 use Rattle.model_examples.proofs.Maps.{makes_m, m_is_more}
 use Rattle.model_examples.proofs.headline.follows_to.Goals as goal
 

@@ -1,6 +1,6 @@
 use Rattle.std.proofs.Common.{◌≡◌, refl, ap, [], ◌∷◌}
 use Rattle.cell_world.specs.Images.{Image}
-use Rattle.model_examples.specs.Values.{site_a, site_b}
+use Rattle.world_examples.specs.Examples.{site_a, site_b}
 use Rattle.model_examples.specs.Runs.{nothing_done}
 use Rattle.model_examples.proofs.headline.goes_on_from.Goals as goal
 

@@ -8,7 +8,8 @@ use Rattle.plain_model.specs.Written.{EachReply, AllWritten}
 use Rattle.plain_model.specs.Headline.{SoundAtEachMoment, IsLegalHistory, GoesOnFrom}
 use Rattle.plain_model.proofs.LegalAtMoments.{legal_by_moments}
 use Rattle.plain_model.proofs.RunsAtMoments.{sound_by_moments}
-use Rattle.model_examples.specs.Values.{map_m, map_n, site_a, site_b, make_map, trail_of, nothing_going, map_commit, map_trail, map_entry}
+use Rattle.model_examples.specs.Values.{make_map, trail_of, nothing_going, map_commit, map_trail, map_entry}
+use Rattle.world_examples.specs.Examples.{map_m, map_n, site_a, site_b}
 use Rattle.model_examples.specs.Runs.{list_trail, list_refused, no_map_line, ok_line, nothing_done, without_number, asks}
 use Rattle.model_examples.proofs.LegalRuns.{one_map, map_sound, map_written}
 use Rattle.model_examples.proofs.Served.{serves}

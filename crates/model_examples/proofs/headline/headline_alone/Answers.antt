@@ -13,7 +13,8 @@ use Rattle.plain_model.specs.Headline.{IsLegalByStates}
 use Rattle.cell_world.specs.Outside.{TellsNothing, TellsContents}
 use Rattle.cell_world.specs.Sound.{Sound}
 use Rattle.plain_model.specs.declared.commands.Command.TheVariants as command
-use Rattle.model_examples.specs.Values.{map_m, map_n, site_a, site_b, make_map, two_sites, with_global, image_m, map_entry, empty_state, nothing_going}
+use Rattle.model_examples.specs.Values.{make_map, two_sites, with_global, image_m, map_entry, empty_state, nothing_going}
+use Rattle.world_examples.specs.Examples.{map_m, map_n, site_a, site_b}
 use Rattle.model_examples.specs.Runs.{without_number, asks}
 use Rattle.model_examples.proofs.Closing.{makes_first}
 use Rattle.model_examples.proofs.LegalRuns.{enters_m}

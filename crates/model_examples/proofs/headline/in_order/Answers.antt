@@ -1,5 +1,6 @@
 use Rattle.std.proofs.Common.{◌≡◌, false, refl, [], ◌∷◌}
-use Rattle.model_examples.specs.Values.{map_m, map_n, make_map, map_entry, second_entry}
+use Rattle.model_examples.specs.Values.{make_map, map_entry, second_entry}
+use Rattle.world_examples.specs.Examples.{map_m, map_n}
 use Rattle.model_examples.specs.Runs.{asks, two_asked}
 use Rattle.model_examples.proofs.Lookups.{differ}
 use Rattle.model_examples.proofs.Served.{in_order, begins_with_n, has_two}

@@ -1,5 +1,6 @@
 use Rattle.std.proofs.Common.{◌≡◌, true≢false, refl, Some, None, [], ◌∷◌}
-use Rattle.model_examples.specs.Values.{map_m, map_n, make_map}
+use Rattle.model_examples.specs.Values.{make_map}
+use Rattle.world_examples.specs.Examples.{map_m, map_n}
 use Rattle.model_examples.specs.Runs.{going_at}
 use Rattle.model_examples.proofs.Lookups.{differ}
 use Rattle.model_examples.proofs.Served.{begins_with_n}

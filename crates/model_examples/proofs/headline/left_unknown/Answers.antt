@@ -2,7 +2,8 @@ use Rattle.std.proofs.Common.{◌≡◌, refl, sym, subst, [], ◌∷◌}
 use Rattle.cell_world.specs.Images.{Image, global}
 use Rattle.cell_world.specs.Outside.{TellsContents}
 use Rattle.plain_model.specs.Headline.{IsFirstUnknown}
-use Rattle.model_examples.specs.Values.{site_a, site_b, two_sites, with_global}
+use Rattle.model_examples.specs.Values.{two_sites, with_global}
+use Rattle.world_examples.specs.Examples.{site_a, site_b}
 use Rattle.model_examples.specs.Runs.{site_c, list_refused, unknown_store}
 use Rattle.model_examples.proofs.UnknownLocations.{none_unknown, c_is_first}
 use Rattle.model_examples.proofs.headline.left_unknown.Goals as goal

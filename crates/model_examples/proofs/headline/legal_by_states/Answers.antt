@@ -1,7 +1,7 @@
 use Rattle.std.proofs.Common.{◌≡◌, refl, ap, ◌∙◌, subst, None, [], ◌∷◌}
 use Rattle.cell_world.specs.Plain.{PlainState}
 use Rattle.plain_model.specs.Legal.{IsAtOperation}
-use Rattle.model_examples.specs.Values.{site_a, site_b}
+use Rattle.world_examples.specs.Examples.{site_a, site_b}
 use Rattle.model_examples.proofs.ListRun.{before_it, follows}
 use Rattle.model_examples.proofs.headline.legal_by_states.Goals as goal
 

@@ -1,7 +1,8 @@
 use Rattle.std.proofs.Common.{◌≡◌, ℕ, Bool, true, false, cond, ◌&&◌, slice_get, take, true≢false, refl, sym, subst, Some, None, List, ◌++◌, [], ◌∷◌, zero, suc}
 use Rattle.std.specs.Prelude.{◌==◌}
 use Rattle.plain_model.specs.declared.commands.Command.TheVariants as command
-use Rattle.model_examples.specs.Values.{map_m, map_n, make_map, map_entry}
+use Rattle.model_examples.specs.Values.{make_map, map_entry}
+use Rattle.world_examples.specs.Examples.{map_m, map_n}
 use Rattle.model_examples.specs.Runs.{asks, two_asked, silent_step, step_done}
 use Rattle.model_examples.proofs.Served.{none_silent}
 use Rattle.plain_model.specs.declared.history.Entry.{Entry}

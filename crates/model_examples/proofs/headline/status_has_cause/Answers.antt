@@ -1,7 +1,8 @@
 use Rattle.std.proofs.Common.{ℕ, ◌≡◌, ◌<◌, ◌≤◌, inr, arith, true≢false, refl, sym, [], ◌∷◌, ⊎_elim}
 use Rattle.cell_world.specs.Outside.{TellsContents}
 use Rattle.plain_model.specs.declared.finish.RunStatus.TheVariants as status
-use Rattle.model_examples.specs.Values.{site_a, site_b, two_sites}
+use Rattle.model_examples.specs.Values.{two_sites}
+use Rattle.world_examples.specs.Examples.{site_a, site_b}
 use Rattle.model_examples.specs.Runs.{site_c, list_refused}
 use Rattle.model_examples.proofs.UnknownLocations.{none_unknown, c_is_first}
 use Rattle.model_examples.proofs.RunStatuses.{list_caused}

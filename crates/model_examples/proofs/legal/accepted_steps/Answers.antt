@@ -5,7 +5,8 @@ use Rattle.cell_world.specs.ByteOrder.{byte_cmp}
 use Rattle.cell_world.specs.declared.cells.Away.TheVariants.{Detached}
 use Rattle.cell_world.specs.declared.operations.Phase.TheVariants.{Idle}
 use Rattle.plain_model.specs.declared.replies.Refusal.TheVariants as refused
-use Rattle.model_examples.specs.Values.{site_a, site_b, job_at, numbered_jobs, all_moved_state, away_of}
+use Rattle.model_examples.specs.Values.{numbered_jobs, all_moved_state}
+use Rattle.world_examples.specs.Examples.{site_a, site_b, job_at, away_of}
 use Rattle.plain_model.specs.Refusing.{AcceptsJob}
 use Rattle.cell_world.specs.Stores.{Jobs}
 use Rattle.model_examples.proofs.Lookups.{get_of}

@@ -10,7 +10,8 @@ use Rattle.cell_world.specs.declared.cells.Status.TheVariants.{Online}
 use Rattle.cell_world.proofs.OrderLaws.{locals_total, pairs_total}
 use Rattle.cell_world.proofs.StoreLaws.{get-insert_same, contains-insert_same}
 use Rattle.plain_model.specs.Worked.{small_range, local_row_over}
-use Rattle.model_examples.specs.Values.{map_m, site_a, keyed_locals, locals_of}
+use Rattle.model_examples.specs.Values.{keyed_locals}
+use Rattle.world_examples.specs.Examples.{map_m, site_a, locals_of}
 use Rattle.model_examples.proofs.Lookups.{entries_of, differ}
 use Rattle.model_examples.proofs.JobStates.{m_stands}
 use Rattle.model_examples.proofs.NearStates.{is_away}

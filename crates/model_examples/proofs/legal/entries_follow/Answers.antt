@@ -4,7 +4,8 @@ use Rattle.cell_world.specs.ByteOrder.{byte_cmp}
 use Rattle.cell_world.specs.declared.cells.KeyType.{KeyType}
 use Rattle.cell_world.specs.declared.cells.MapKind.{MapKind}
 use Rattle.plain_model.specs.ByMoments.{standing}
-use Rattle.model_examples.specs.Values.{map_m, map_trail, trail_of}
+use Rattle.model_examples.specs.Values.{map_trail, trail_of}
+use Rattle.world_examples.specs.Examples.{map_m}
 use Rattle.model_examples.proofs.Lookups.{differ}
 use Rattle.model_examples.proofs.Maps.{has_map, has_it, has_none}
 use Rattle.model_examples.proofs.Closing.{makes_first}

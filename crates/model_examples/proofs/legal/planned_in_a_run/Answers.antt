@@ -9,7 +9,8 @@ use Rattle.plain_model.specs.Legal.{IsPlanned}
 use Rattle.plain_model.specs.Timelines.{Happened}
 use Rattle.plain_model.specs.Worked.{small_key}
 use Rattle.plain_model.proofs.LegalAtMoments.{legal_by_moments}
-use Rattle.model_examples.specs.Values.{silent, job_at, nothing_going, tried, move_op, move_commit, copying_image, copying_trail}
+use Rattle.model_examples.specs.Values.{silent, nothing_going, tried, move_op, move_commit, copying_image, copying_trail}
+use Rattle.world_examples.specs.Examples.{job_at}
 use Rattle.model_examples.specs.Runs.{named_step}
 use Rattle.plain_model.specs.declared.history.Entry.{Entry}
 use Rattle.plain_model.specs.declared.commands.Command.TheVariants as command

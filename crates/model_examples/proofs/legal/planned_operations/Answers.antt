@@ -8,7 +8,8 @@ use Rattle.cell_world.specs.declared.operations.Phase.TheVariants.{Idle, Copying
 use Rattle.cell_world.specs.declared.spans.High.TheVariants.{At}
 use Rattle.plain_model.specs.JobSteps.{is_moved}
 use Rattle.plain_model.specs.Worked.{small_key}
-use Rattle.model_examples.specs.Values.{site_a, numbered_jobs, job_at, job_piece, fresh_image}
+use Rattle.model_examples.specs.Values.{numbered_jobs, fresh_image}
+use Rattle.world_examples.specs.Examples.{site_a, job_at, job_piece}
 use Rattle.model_examples.proofs.Lookups.{get_of, differ}
 use Rattle.cell_world.specs.declared.cells.Away.TheVariants.{Detached}
 use Rattle.plain_model.specs.declared.replies.Refusal.TheVariants as refused

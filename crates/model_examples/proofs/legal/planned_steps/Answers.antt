@@ -19,7 +19,8 @@ use Rattle.plain_model.specs.JobSteps.{stepped}
 use Rattle.plain_model.specs.Legal.{IsPlannedIn}
 use Rattle.plain_model.specs.Refusing.{if_there}
 use Rattle.plain_model.specs.Worked.{small_key}
-use Rattle.model_examples.specs.Values.{map_m, site_a, site_b, keyed_pieces, job_at, job_piece, fresh_state, after_split, fresh_image, move_op, split_op}
+use Rattle.model_examples.specs.Values.{fresh_state, after_split, fresh_image, move_op, split_op}
+use Rattle.world_examples.specs.Examples.{map_m, site_a, site_b, keyed_pieces, job_at, job_piece}
 use Rattle.model_examples.proofs.Lookups.{get_of, differ}
 use Rattle.model_examples.proofs.JobStates.{job_stands, is_job, finishes}
 use Rattle.model_examples.proofs.Operations.{in_log}

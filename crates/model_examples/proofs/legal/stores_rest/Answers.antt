@@ -1,5 +1,6 @@
 use Rattle.std.proofs.Common.{◌≡◌, true, false, arith, sym, ◌∙◌}
-use Rattle.model_examples.specs.Values.{map_m, empty_state}
+use Rattle.model_examples.specs.Values.{empty_state}
+use Rattle.world_examples.specs.Examples.{map_m}
 use Rattle.model_examples.proofs.Maps.{has_it, has_none}
 use Rattle.model_examples.proofs.NearStates.{near_maps}
 use Rattle.model_examples.proofs.legal.stores_rest.Goals as goal

@@ -10,7 +10,8 @@ use Rattle.cell_world.specs.declared.cells.Status.{Status}
 use Rattle.cell_world.specs.declared.cells.Status.TheVariants.{Online, Offline}
 use Rattle.plain_model.specs.Differing.{local_status, local_rows_of}
 use Rattle.plain_model.specs.Worked.{small_key, small_range, local_row_over}
-use Rattle.model_examples.specs.Values.{map_m, map_n, site_a, empty_state, one_row, row_m, keyed_locals, local_rows}
+use Rattle.model_examples.specs.Values.{empty_state, one_row, row_m, keyed_locals, local_rows}
+use Rattle.world_examples.specs.Examples.{map_m, map_n, site_a}
 use Rattle.model_examples.proofs.Lookups.{get_of, entries_of, differ}
 use Rattle.model_examples.proofs.Maps.{has_it, has_none}
 use Rattle.model_examples.proofs.NearStates.{near_maps, is_away, detached_holds, suspect_cuts}

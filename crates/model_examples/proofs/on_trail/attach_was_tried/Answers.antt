@@ -2,7 +2,8 @@ use Rattle.std.proofs.Common.{◌≡◌, true, false, sym, ap, ◌∙◌, Some, 
 use Rattle.std.specs.FinMap as fin
 use Rattle.cell_world.specs.Plain.{PlainState, Held}
 use Rattle.cell_world.specs.declared.cells.Away.TheVariants.{Detached, Suspect}
-use Rattle.model_examples.specs.Values.{site_a, away_state, one_row, row_cells, keyed_locals}
+use Rattle.model_examples.specs.Values.{away_state, one_row, row_cells, keyed_locals}
+use Rattle.world_examples.specs.Examples.{site_a}
 use Rattle.cell_world.specs.Images.{Shard, Reopened}
 use Rattle.cell_world.specs.Orders.{local_cmp}
 use Rattle.plain_model.specs.declared.commands.Command.TheVariants as command

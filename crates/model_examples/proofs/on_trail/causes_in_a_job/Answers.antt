@@ -21,7 +21,8 @@ use Rattle.plain_model.specs.Refusing.{if_there}
 use Rattle.plain_model.specs.Steps.{ended_under}
 use Rattle.plain_model.specs.Timelines.{Happened}
 use Rattle.plain_model.specs.Worked.{small_key}
-use Rattle.model_examples.specs.Values.{two_sites, naming, fresh_connected, job_offline_op, tried, site_a, site_b, answered, one_connection, job_at, job_piece, keyed_pieces, copying_state}
+use Rattle.model_examples.specs.Values.{two_sites, naming, fresh_connected, job_offline_op, tried, answered, one_connection, copying_state}
+use Rattle.world_examples.specs.Examples.{site_a, site_b, job_at, job_piece, keyed_pieces}
 use Rattle.model_examples.proofs.Lookups.{entries_of, differ}
 use Rattle.model_examples.proofs.JobStates.{m_stands, job_stands, the_move, is_batch_moved}
 use Rattle.model_examples.proofs.Faults.{is_live, ends_connections, ends_in_the_job}

@@ -9,7 +9,8 @@ use Rattle.cell_world.specs.declared.operations.Reach.TheVariants as reach
 use Rattle.plain_model.specs.OnTrail.{IsLeastInWay, IsLive}
 use Rattle.plain_model.specs.Timelines.{Happened}
 use Rattle.plain_model.specs.Worked.{small_range}
-use Rattle.model_examples.specs.Values.{map_m, two_sites, add_op, tried}
+use Rattle.model_examples.specs.Values.{two_sites, add_op, tried}
+use Rattle.world_examples.specs.Examples.{map_m}
 use Rattle.model_examples.proofs.Operations.{reached, in_log, only_in_log}
 use Rattle.model_examples.proofs.on_trail.pending_in_the_way.Goals as goal
 
