@@ -1,0 +1,7 @@
+//! Tests of the readers of the stores, over stores in memory.
+#![tactic(auto)]
+
+#[cfg(test)]
+mod globals;
+#[cfg(test)]
+mod locals;
