@@ -13,46 +13,9 @@ use plain_model::replies::Reply;
 use script_lang::programs::Program;
 use script_lang::replies::write_reply;
 use script_lang::scripts::read_lines;
-use script_lang::verbs::Verb;
+use script_lang::verbs::ALL;
 use std::alloc::Global;
 use std::env;
-
-/// Every command.
-const ALL: [Verb; 33] = [
-    Verb::Map,
-    Verb::Unmap,
-    Verb::Shard,
-    Verb::Unshard,
-    Verb::Table,
-    Verb::Add,
-    Verb::Addpoint,
-    Verb::Delete,
-    Verb::Offline,
-    Verb::Online,
-    Verb::Move,
-    Verb::Split,
-    Verb::Merge,
-    Verb::Lock,
-    Verb::Unlock,
-    Verb::Find,
-    Verb::List,
-    Verb::Shards,
-    Verb::Open,
-    Verb::Close,
-    Verb::Put,
-    Verb::Get,
-    Verb::Del,
-    Verb::Peek,
-    Verb::Detach,
-    Verb::Attach,
-    Verb::Differences,
-    Verb::Resolve,
-    Verb::Discard,
-    Verb::Clear,
-    Verb::Job,
-    Verb::Step,
-    Verb::Run,
-];
 
 /// The lines that a script repeats: four commands, a comment and an empty line.
 const LINES: &[u8] =

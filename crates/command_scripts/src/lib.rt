@@ -1,14 +1,29 @@
-//! The table of scripts: what each is answered, line by line, over empty stores that know `s/a`, `s/b` and `s/c`.
+//! Scripts with the lines that answer them, for every program that runs scripts.
 #![tactic(auto)]
 
-pub mod connections;
-pub mod mappings;
+pub mod byte_keys;
+pub mod cuts;
+pub mod deletes;
+pub mod guids;
+pub mod limits;
+pub mod locks;
 pub mod maps;
+pub mod merges;
+pub mod moves;
+pub mod new_mappings;
+pub mod numbers;
+pub mod rows;
+pub mod sessions;
+pub mod statuses;
+pub mod ticks;
+pub mod worked;
 
-/// A script, and the lines that answer it.
+/// A line, and the lines that answer it with line feeds between. A line `session N` says whose the commands after it are, and nothing answers it.
+pub type Line = (&'static str, &'static str);
+
+/// Lines that are asked over empty stores with the locations `s/a`, `s/b` and `s/c`.
 pub struct Script {
-    /// Commands, one a line, each line with its end. A line `session N` says whose commands follow; before it they are session 1's.
-    pub text: &'static str,
-    /// The lines of all replies, each with its end, without the numbers of sessions.
-    pub replies: &'static str,
+    /// What it shows.
+    pub about: &'static str,
+    pub lines: &'static [Line],
 }

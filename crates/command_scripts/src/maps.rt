@@ -1,270 +1,115 @@
-//! Scripts on maps, shards and tables.
+//! Scripts on maps, their shards and their tables.
 use crate::Script;
 
-pub static SCRIPTS: [Script; 3] = [
-    // Maps, shards and tables.
+pub static SCRIPTS: [Script; 6] = [
     Script {
-        text: "\
-               map m range int\n\
-               map l list long\n\
-               map m list guid\n\
-               unmap x\n\
-               shard x s/z\n\
-               shard m s/z\n\
-               shard m s/a\n\
-               shard m s/a\n\
-               shard m s/b\n\
-               shard l s/b\n\
-               unmap m\n\
-               unshard x s/z\n\
-               unshard m s/z\n\
-               unshard m s/c\n\
-               unshard l s/a\n\
-               shards x\n\
-               shards m\n\
-               shards l\n\
-               add m 0 10 s/a\n\
-               unshard m s/a\n\
-               unshard m s/b\n\
-               shards m\n\
-               table x t\n\
-               table m t\n\
-               table m t\n\
-               table l t\n\
-               unshard l s/b\n\
-               unmap l\n\
-               shards l\n\
-               map l list long\n\
-               table l t\n",
-        replies: "\
-                  ok\n\
-                  ok\n\
-                  map-exists\n\
-                  no-map\n\
-                  no-map\n\
-                  no-location\n\
-                  ok\n\
-                  shard-exists\n\
-                  ok\n\
-                  ok\n\
-                  map-in-use\n\
-                  no-map\n\
-                  no-location\n\
-                  not-a-shard\n\
-                  not-a-shard\n\
-                  no-map\n\
-                  shards 2\n\
-                  s/a\n\
-                  s/b\n\
-                  shards 1\n\
-                  s/b\n\
-                  ok\n\
-                  shard-in-use\n\
-                  ok\n\
-                  shards 1\n\
-                  s/a\n\
-                  no-map\n\
-                  ok\n\
-                  table-exists\n\
-                  ok\n\
-                  ok\n\
-                  ok\n\
-                  no-map\n\
-                  ok\n\
-                  ok\n",
+        about: "map: a name is taken once, whatever the kind and the type",
+        lines: &[
+            ("map m range int", "ok"),
+            ("map m range int", "map-exists"),
+            ("map m list guid", "map-exists"),
+            ("map M list guid", "ok"),
+            ("map n list bytes", "ok"),
+        ],
     },
-    // At most 16 tables of a map, and a table that is there is told first.
     Script {
-        text: "\
-               map m range int\n\
-               map n range int\n\
-               table m t0\n\
-               table m t1\n\
-               table m t2\n\
-               table m t3\n\
-               table m t4\n\
-               table m t5\n\
-               table m t6\n\
-               table m t7\n\
-               table m t8\n\
-               table m t9\n\
-               table m t10\n\
-               table m t11\n\
-               table m t12\n\
-               table m t13\n\
-               table m t14\n\
-               table m t15\n\
-               table m u\n\
-               table m t3\n\
-               table n u\n\
-               unmap m\n\
-               map m range int\n\
-               table m u\n",
-        replies: "\
-                  ok\n\
-                  ok\n\
-                  ok\n\
-                  ok\n\
-                  ok\n\
-                  ok\n\
-                  ok\n\
-                  ok\n\
-                  ok\n\
-                  ok\n\
-                  ok\n\
-                  ok\n\
-                  ok\n\
-                  ok\n\
-                  ok\n\
-                  ok\n\
-                  ok\n\
-                  ok\n\
-                  full\n\
-                  table-exists\n\
-                  ok\n\
-                  ok\n\
-                  ok\n\
-                  ok\n",
+        about: "unmap",
+        lines: &[
+            ("unmap m", "no-map"),
+            ("map m range int", "ok"),
+            ("map n range int", "ok"),
+            ("shard n s/a", "ok"),
+            ("shard m s/a", "ok"),
+            ("unmap m", "map-in-use"),
+            ("unshard m s/a", "ok"),
+            ("table m t", "ok"),
+            // a shard of another map isn't in the way
+            ("unmap m", "ok"),
+            ("unmap m", "no-map"),
+            ("list m", "no-map"),
+            // the name is free, and its tables are gone with the map
+            ("map m list long", "ok"),
+            ("shards m", "shards 0"),
+            ("table m t", "ok"),
+            ("table m t", "table-exists"),
+        ],
     },
-    // At most 64 maps, and a map that is there is told first.
     Script {
-        text: "\
-               map m0 range int\n\
-               map m1 range int\n\
-               map m2 range int\n\
-               map m3 range int\n\
-               map m4 range int\n\
-               map m5 range int\n\
-               map m6 range int\n\
-               map m7 range int\n\
-               map m8 range int\n\
-               map m9 range int\n\
-               map m10 range int\n\
-               map m11 range int\n\
-               map m12 range int\n\
-               map m13 range int\n\
-               map m14 range int\n\
-               map m15 range int\n\
-               map m16 range int\n\
-               map m17 range int\n\
-               map m18 range int\n\
-               map m19 range int\n\
-               map m20 range int\n\
-               map m21 range int\n\
-               map m22 range int\n\
-               map m23 range int\n\
-               map m24 range int\n\
-               map m25 range int\n\
-               map m26 range int\n\
-               map m27 range int\n\
-               map m28 range int\n\
-               map m29 range int\n\
-               map m30 range int\n\
-               map m31 range int\n\
-               map m32 range int\n\
-               map m33 range int\n\
-               map m34 range int\n\
-               map m35 range int\n\
-               map m36 range int\n\
-               map m37 range int\n\
-               map m38 range int\n\
-               map m39 range int\n\
-               map m40 range int\n\
-               map m41 range int\n\
-               map m42 range int\n\
-               map m43 range int\n\
-               map m44 range int\n\
-               map m45 range int\n\
-               map m46 range int\n\
-               map m47 range int\n\
-               map m48 range int\n\
-               map m49 range int\n\
-               map m50 range int\n\
-               map m51 range int\n\
-               map m52 range int\n\
-               map m53 range int\n\
-               map m54 range int\n\
-               map m55 range int\n\
-               map m56 range int\n\
-               map m57 range int\n\
-               map m58 range int\n\
-               map m59 range int\n\
-               map m60 range int\n\
-               map m61 range int\n\
-               map m62 range int\n\
-               map m63 range int\n\
-               map n range int\n\
-               map m5 range int\n\
-               unmap m5\n\
-               map n range int\n",
-        replies: "\
-                  ok\n\
-                  ok\n\
-                  ok\n\
-                  ok\n\
-                  ok\n\
-                  ok\n\
-                  ok\n\
-                  ok\n\
-                  ok\n\
-                  ok\n\
-                  ok\n\
-                  ok\n\
-                  ok\n\
-                  ok\n\
-                  ok\n\
-                  ok\n\
-                  ok\n\
-                  ok\n\
-                  ok\n\
-                  ok\n\
-                  ok\n\
-                  ok\n\
-                  ok\n\
-                  ok\n\
-                  ok\n\
-                  ok\n\
-                  ok\n\
-                  ok\n\
-                  ok\n\
-                  ok\n\
-                  ok\n\
-                  ok\n\
-                  ok\n\
-                  ok\n\
-                  ok\n\
-                  ok\n\
-                  ok\n\
-                  ok\n\
-                  ok\n\
-                  ok\n\
-                  ok\n\
-                  ok\n\
-                  ok\n\
-                  ok\n\
-                  ok\n\
-                  ok\n\
-                  ok\n\
-                  ok\n\
-                  ok\n\
-                  ok\n\
-                  ok\n\
-                  ok\n\
-                  ok\n\
-                  ok\n\
-                  ok\n\
-                  ok\n\
-                  ok\n\
-                  ok\n\
-                  ok\n\
-                  ok\n\
-                  ok\n\
-                  ok\n\
-                  ok\n\
-                  ok\n\
-                  full\n\
-                  map-exists\n\
-                  ok\n\
-                  ok\n",
+        about: "shard",
+        lines: &[
+            // no-map and no-location
+            ("shard x s/z", "no-map"),
+            ("shard x s/a", "no-map"),
+            ("map m range int", "ok"),
+            ("map n list long", "ok"),
+            ("shard m s/z", "no-location"),
+            ("shard m s/a", "ok"),
+            ("shard m s/a", "shard-exists"),
+            ("shard m s/b", "ok"),
+            ("shard n s/a", "ok"),
+            ("shard n s/a", "shard-exists"),
+        ],
+    },
+    Script {
+        about: "unshard",
+        lines: &[
+            // no-map and no-location
+            ("unshard x s/z", "no-map"),
+            ("unshard x s/a", "no-map"),
+            ("map m range int", "ok"),
+            ("map n range int", "ok"),
+            ("shard n s/a", "ok"),
+            // no-location and not-a-shard
+            ("unshard m s/z", "no-location"),
+            // it is a shard of another map
+            ("unshard m s/a", "not-a-shard"),
+            ("shard m s/a", "ok"),
+            ("add m 0 10 s/a", "ok"),
+            ("unshard m s/a", "shard-in-use"),
+            ("offline m 0", "ok"),
+            ("unshard m s/a", "shard-in-use"),
+            // a mapping of another map isn't in the way
+            ("unshard n s/a", "ok"),
+            ("unshard n s/a", "not-a-shard"),
+            // nor is one at another location
+            ("shard m s/b", "ok"),
+            ("unshard m s/b", "ok"),
+            ("delete m 0", "ok"),
+            ("unshard m s/a", "ok"),
+            ("unshard m s/a", "not-a-shard"),
+            ("shards m", "shards 0"),
+        ],
+    },
+    Script {
+        about: "table",
+        lines: &[
+            ("table x t", "no-map"),
+            ("map m range int", "ok"),
+            ("map n list guid", "ok"),
+            ("table m t", "ok"),
+            ("table m t", "table-exists"),
+            ("table m T", "ok"),
+            ("table m m", "ok"),
+            ("table n t", "ok"),
+            ("table n t", "table-exists"),
+        ],
+    },
+    Script {
+        about: "shards, in byte order",
+        lines: &[
+            ("shards x", "no-map"),
+            ("map m range int", "ok"),
+            ("map n range int", "ok"),
+            ("shards m", "shards 0"),
+            ("shard m s/c", "ok"),
+            ("shard m s/a", "ok"),
+            ("shard n s/b", "ok"),
+            ("shards m", "shards 2\ns/a\ns/c"),
+            ("shards n", "shards 1\ns/b"),
+            ("shard m s/b", "ok"),
+            ("shards m", "shards 3\ns/a\ns/b\ns/c"),
+            ("unshard m s/a", "ok"),
+            ("shards m", "shards 2\ns/b\ns/c"),
+        ],
     },
 ];

@@ -26,10 +26,10 @@ module _ (s : Store) (store : IsStore s) (g : Group) (limit : ℕ) (found : List
 
   -- What it finds of the group, up to the first other cell, is the group's first cells.
   pub scan_front : inside g found ≡ take limit (cells_of s g)
-  scan_front = front_is Before not_itself before_trans limit (inside g found) (cells_of s g) (rising_inside g found (as_rising found scan.rises)) (rise s store g)
-      (λ c h. let i = in_inside g found c h in there s store g c (scan.stand c i.0).0 i.1)
+  scan_front = front_is Before not_itself before_trans limit (inside g found) (cells_of s g) (rising_inside g found (as_rising found scan.rises)) (rise s store.keyed g)
+      (λ c h. let i = in_inside g found c h in there s store.keyed g c (scan.stand c i.0).0 i.1)
       (let short = short_inside g found in let most = scan.at_most in omega (arith, short, most))
-      (λ c h. let i = stand s store g c h in elim (scan.all c i.0 (from_on c i.0 i.1)) [
+      (λ c h. let i = stand s store.keyed g c h in elim (scan.all c i.0 (from_on c i.0 i.1)) [
         | inl among ↦ inl (into_inside g found (as_rising found scan.rises) near c among i.1)
         | inr rest ↦
             let whole : inside g found ≡ found = whole_inside g found (λ d m. let n = near d m in in_before g (own_key d) (own_key c) n.0 n.1 (rest.1 d m) i.1) in
@@ -41,7 +41,7 @@ module _ (s : Store) (store : IsStore s) (g : Group) (limit : ℕ) (found : List
 
   -- As many are found as asked for exactly where so many stand.
   pub scan_counts : nat_le limit (length (inside g found)) ≡ nat_le limit (count_of s g)
-  scan_counts = ap (λ cs. nat_le limit (length cs)) scan_front ∙ ap (nat_le limit) (length-take limit (cells_of s g)) ∙ reaches (length (cells_of s g)) ∙ ap (nat_le limit) (counted s store g)
+  scan_counts = ap (λ cs. nat_le limit (length cs)) scan_front ∙ ap (nat_le limit) (length-take limit (cells_of s g)) ∙ reaches (length (cells_of s g)) ∙ ap (nat_le limit) (counted s store.keyed g)
 
 -- ---- over what is told
 

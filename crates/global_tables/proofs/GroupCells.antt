@@ -15,7 +15,7 @@ use Rattle.cell_world.specs.ByteOrder.{byte_cmp}
 use Rattle.cell_world.specs.Keys.{same}
 use Rattle.cell_world.specs.Lists.{IsOneOf}
 use Rattle.cell_world.specs.Orders.{pair_cmp}
-use Rattle.cell_world.specs.Stores.{Store, IsStore, Stands, own_key, piece_key}
+use Rattle.cell_world.specs.Stores.{Store, IsKeyed, Stands, own_key, piece_key}
 use Rattle.cell_world.specs.declared.cells.Cell.{Cell}
 use Rattle.cell_world.specs.declared.cells.Cell.TheVariants as cell
 use Rattle.cell_world.specs.declared.cells.MapKind.{MapKind}
@@ -92,7 +92,7 @@ op_number op = op.number
 abbrev job_number : JobRow → ℕ
 job_number job = job.number
 
-module _ (s : Store) (store : IsStore s) where
+module _ (s : Store) (keyed : IsKeyed s) where
   -- They are in cell order.
   pub rise : (g : Group) → Rising Before (cells_of s g)
   rise group.Maps = rising_map_in map_cell (λ a b. byte_cmp a.0 b.0 ≡ Less) Before (fin.entries s.maps) (λ a b p q h. by_text a.0 b.0 ∙ h) (entries_rise byte_cmp nat_list_cmp_total s.maps)
@@ -102,12 +102,14 @@ module _ (s : Store) (store : IsStore s) where
   rise group.Tables = rising_map_in table_cell Pairs Before (members s.tables) (λ a b p q. tables_before a b) (members_rise pair_cmp pairs_total s.tables)
   rise (group.TablesOf name) = rising_map_in table_cell Pairs Before (tables_in s.tables name) (λ a b p q. tables_before a b)
       (rising_filter Pairs (λ table. same name table.0) (members s.tables) (members_rise pair_cmp pairs_total s.tables))
+  rise group.Pieces = rising_map_in cell.Piece (λ p q. Pairs (piece_key p) (piece_key q)) Before (fin.values s.mappings) (λ p q m n h. by_pair (piece_key p) (piece_key q) ∙ h)
+      (values_rise pairs_total piece_key s.mappings keyed.mappings)
   rise (group.PiecesOf name) = rising_map_in cell.Piece (λ p q. Pairs (piece_key p) (piece_key q)) Before (pieces_in s.mappings name) (λ p q m n h. by_pair (piece_key p) (piece_key q) ∙ h)
-      (rising_filter (λ p q. Pairs (piece_key p) (piece_key q)) (λ p. same name p.map) (fin.values s.mappings) (values_rise pairs_total piece_key s.mappings store.keyed.mappings))
+      (rising_filter (λ p q. Pairs (piece_key p) (piece_key q)) (λ p. same name p.map) (fin.values s.mappings) (values_rise pairs_total piece_key s.mappings keyed.mappings))
   rise group.Log = rising_map_in cell.Log (λ a b. nat_cmp (op_number a) (op_number b) ≡ Less) Before (fin.values s.log) (λ a b p q h. by_number (op_number a) (op_number b) ∙ h)
-      (values_rise nat_cmp_total op_number s.log store.keyed.log)
+      (values_rise nat_cmp_total op_number s.log keyed.log)
   rise group.Jobs = rising_map_in cell.Job (λ a b. nat_cmp (job_number a) (job_number b) ≡ Less) Before (fin.values s.jobs) (λ a b p q h. by_number (job_number a) (job_number b) ∙ h)
-      (values_rise nat_cmp_total job_number s.jobs store.keyed.jobs)
+      (values_rise nat_cmp_total job_number s.jobs keyed.jobs)
   rise group.Away = rising_map_in away_cell (λ a b. byte_cmp a.0 b.0 ≡ Less) Before (fin.entries s.away) (λ a b p q h. by_text a.0 b.0 ∙ h) (entries_rise byte_cmp nat_list_cmp_total s.away)
 
   shard_stands : (q : Text × Text) → IsOneOf (members s.shards) q → Stands s (shard_cell q)
@@ -135,16 +137,19 @@ module _ (s : Store) (store : IsStore s) where
       let m = in_map table_cell (tables_in s.tables name) c h in
       let f = in_filter (λ table. same name table.0) (members s.tables) m.0 m.1 in
       subst (λ c. Stands s c × (is_in (group.TablesOf name) (own_key c) ≡ true)) m.2 (table_stands m.0 f.0, f.1)
+  stand group.Pieces c h =
+      let m = in_map cell.Piece (fin.values s.mappings) c h in
+      subst (λ c. Stands s c × (is_in group.Pieces (own_key c) ≡ true)) m.2 (ap (option_map cell.Piece) (value_stands pairs_total piece_key s.mappings keyed.mappings m.0 m.1), refl)
   stand (group.PiecesOf name) c h =
       let m = in_map cell.Piece (pieces_in s.mappings name) c h in
       let f = in_filter (λ p. same name p.map) (fin.values s.mappings) m.0 m.1 in
-      subst (λ c. Stands s c × (is_in (group.PiecesOf name) (own_key c) ≡ true)) m.2 (ap (option_map cell.Piece) (value_stands pairs_total piece_key s.mappings store.keyed.mappings m.0 f.0), f.1)
+      subst (λ c. Stands s c × (is_in (group.PiecesOf name) (own_key c) ≡ true)) m.2 (ap (option_map cell.Piece) (value_stands pairs_total piece_key s.mappings keyed.mappings m.0 f.0), f.1)
   stand group.Log c h =
       let m = in_map cell.Log (fin.values s.log) c h in
-      subst (λ c. Stands s c × (is_in group.Log (own_key c) ≡ true)) m.2 (ap (option_map cell.Log) (value_stands nat_cmp_total op_number s.log store.keyed.log m.0 m.1), refl)
+      subst (λ c. Stands s c × (is_in group.Log (own_key c) ≡ true)) m.2 (ap (option_map cell.Log) (value_stands nat_cmp_total op_number s.log keyed.log m.0 m.1), refl)
   stand group.Jobs c h =
       let m = in_map cell.Job (fin.values s.jobs) c h in
-      subst (λ c. Stands s c × (is_in group.Jobs (own_key c) ≡ true)) m.2 (ap (option_map cell.Job) (value_stands nat_cmp_total job_number s.jobs store.keyed.jobs m.0 m.1), refl)
+      subst (λ c. Stands s c × (is_in group.Jobs (own_key c) ≡ true)) m.2 (ap (option_map cell.Job) (value_stands nat_cmp_total job_number s.jobs keyed.jobs m.0 m.1), refl)
   stand group.Away c h =
       let m = in_map away_cell (fin.entries s.away) c h in
       subst (λ c. Stands s c × (is_in group.Away (own_key c) ≡ true)) m.2 (ap (option_map (cell.SiteState m.0.0)) (entry_stands byte_cmp nat_list_cmp_total s.away m.0 m.1), refl)
@@ -160,13 +165,13 @@ module _ (s : Store) (store : IsStore s) where
   table_there q h = member_there pair_cmp pairs_total exact_text_pairs s.tables q (has_back (set.contains s.tables q) (table_cell q) h)
 
   piece_there : (p : Piece) → Stands s (cell.Piece p) → IsOneOf (fin.values s.mappings) p
-  piece_there p h = value_there pairs_total piece_key s.mappings store.keyed.mappings exact_text_pairs (piece_key p) p (get_back cell.Piece (λ x y e. cc) (fin.get s.mappings (piece_key p)) p h)
+  piece_there p h = value_there pairs_total piece_key s.mappings keyed.mappings exact_text_pairs (piece_key p) p (get_back cell.Piece (λ x y e. cc) (fin.get s.mappings (piece_key p)) p h)
 
   op_there : (op : Op) → Stands s (cell.Log op) → IsOneOf (fin.values s.log) op
-  op_there op h = value_there nat_cmp_total op_number s.log store.keyed.log exact_unsigned op.number op (get_back cell.Log (λ x y e. cc) (fin.get s.log op.number) op h)
+  op_there op h = value_there nat_cmp_total op_number s.log keyed.log exact_unsigned op.number op (get_back cell.Log (λ x y e. cc) (fin.get s.log op.number) op h)
 
   job_there : (job : JobRow) → Stands s (cell.Job job) → IsOneOf (fin.values s.jobs) job
-  job_there job h = value_there nat_cmp_total job_number s.jobs store.keyed.jobs exact_unsigned job.number job (get_back cell.Job (λ x y e. cc) (fin.get s.jobs job.number) job h)
+  job_there job h = value_there nat_cmp_total job_number s.jobs keyed.jobs exact_unsigned job.number job (get_back cell.Job (λ x y e. cc) (fin.get s.jobs job.number) job h)
 
   away_there : (location : Text) (state : Away) → Stands s (cell.SiteState location state) → IsOneOf (fin.entries s.away) (location, state)
   away_there location state h = entry_there byte_cmp nat_list_cmp_total exact_texts s.away location state (get_back (cell.SiteState location) (λ x y e. cc) (fin.get s.away location) state h)
@@ -180,6 +185,7 @@ module _ (s : Store) (store : IsStore s) where
   there group.Tables (cell.Table name table) h e = into_map table_cell (members s.tables) (name, table) (table_there (name, table) h)
   there (group.TablesOf of) (cell.Table name table) h e = into_map table_cell (tables_in s.tables of) (name, table)
       (from_filter (λ table. same of table.0) (members s.tables) (name, table) (table_there (name, table) h) e)
+  there group.Pieces (cell.Piece p) h e = into_map cell.Piece (fin.values s.mappings) p (piece_there p h)
   there (group.PiecesOf of) (cell.Piece p) h e = into_map cell.Piece (pieces_in s.mappings of) p (from_filter (λ p. same of p.map) (fin.values s.mappings) p (piece_there p h) e)
   there group.Log (cell.Log op) h e = into_map cell.Log (fin.values s.log) op (op_there op h)
   there group.Jobs (cell.Job job) h e = into_map cell.Job (fin.values s.jobs) job (job_there job h)
@@ -193,6 +199,7 @@ module _ (s : Store) (store : IsStore s) where
   counted (group.ShardsOf name) = length-map (shards_in s.shards name) shard_cell
   counted group.Tables = length-map (members s.tables) table_cell
   counted (group.TablesOf name) = length-map (tables_in s.tables name) table_cell
+  counted group.Pieces = length-map (fin.values s.mappings) cell.Piece ∙ length-map (fin.entries s.mappings) (λ (e : (Text × Text) × Piece). e.1) ∙ sym (fin.len-entries s.mappings)
   counted (group.PiecesOf name) = length-map (pieces_in s.mappings name) cell.Piece
   counted group.Log = length-map (fin.values s.log) cell.Log ∙ length-map (fin.entries s.log) (λ (e : ℕ × Op). e.1) ∙ sym (fin.len-entries s.log)
   counted group.Jobs = length-map (fin.values s.jobs) cell.Job ∙ length-map (fin.entries s.jobs) (λ (e : ℕ × JobRow). e.1) ∙ sym (fin.len-entries s.jobs)

@@ -1,15 +1,11 @@
 -- The copied lists are what the cells say.
 use Rattle.std.proofs.Common.{◌≡◌, List, [], ◌∷◌, map, refl, sym, ap, ◌∙◌, subst}
 use Rattle.std.specs.FinMap as fin
-use Rattle.cell_world.specs.Texts.{Text}
-use Rattle.cell_world.specs.Images.{Image, global, image_at, end_of_trail}
+use Rattle.cell_world.specs.Images.{global, image_at, end_of_trail}
 use Rattle.cell_world.specs.Stores.{Store}
 use Rattle.cell_world.specs.Outside.{Told, TellsNothing, TellsContents, TellsTrail, IfContents}
 use Rattle.cell_world.specs.declared.cells.Cell.{Cell}
 use Rattle.cell_world.specs.declared.cells.Cell.TheVariants as cell
-use Rattle.cell_world.specs.declared.cells.MapKind.{MapKind}
-use Rattle.cell_world.specs.declared.cells.KeyType.{KeyType}
-use Rattle.cell_world.specs.declared.cells.Away.{Away}
 use Rattle.cell_world.specs.declared.operations.JobRow.{JobRow}
 use Rattle.global_tables.specs.declared.groups.Group.{Group}
 use Rattle.global_tables.specs.declared.groups.Group.TheVariants as group
@@ -19,24 +15,23 @@ use Rattle.global_tables.specs.declared.rows.TableRow.{TableRow}
 use Rattle.global_tables.specs.declared.rows.AwayRow.{AwayRow}
 use Rattle.cell_world.specs.Members.{members}
 use Rattle.global_tables.specs.Groups.{cells_of}
-use Rattle.global_tables.specs.Known.{Known, known_of, map_row, shard_row, table_row, away_row}
+use Rattle.global_tables.specs.Known.{known_of, map_row, shard_row, table_row, away_row}
 use Rattle.global_tables.proofs.Rising.{map_back}
-use Rattle.global_tables.proofs.RowLaws.{told_weaker}
 
-abbrev map_cell : MapRow → Cell
+abbrev pub map_cell : MapRow → Cell
 map_cell row = cell.Map row.name row.kind row.key_type
 
-abbrev shard_cell : ShardRow → Cell
+abbrev pub shard_cell : ShardRow → Cell
 shard_cell row = cell.Shard row.map row.location
 
-abbrev table_cell : TableRow → Cell
+abbrev pub table_cell : TableRow → Cell
 table_cell row = cell.Table row.map row.table
 
-abbrev away_cell : AwayRow → Cell
+abbrev pub away_cell : AwayRow → Cell
 away_cell row = cell.SiteState row.location row.state
 
 module _ {A B : Type 0} (row : A → B) (of : B → Cell) where
-  again : (xs : List A) → map of (map row xs) ≡ map (λ x. of (row x)) xs
+  pub again : (xs : List A) → map of (map row xs) ≡ map (λ x. of (row x)) xs
   again [] = refl
   again (x ∷ xs) = ap (λ cs. of (row x) ∷ cs) (again xs)
 
@@ -53,19 +48,19 @@ away_one : (x y : AwayRow) → away_cell x ≡ away_cell y → x ≡ y
 away_one x y e = let l : x.location ≡ y.location = cc in let s : x.state ≡ y.state = cc in λ i. record { location = l i; state = s i }
 
 module _ (s : Store) where
-  maps_from : (rows : List MapRow) → map map_cell rows ≡ cells_of s group.Maps → rows ≡ map map_row (fin.entries s.maps)
+  pub maps_from : (rows : List MapRow) → map map_cell rows ≡ cells_of s group.Maps → rows ≡ map map_row (fin.entries s.maps)
   maps_from rows e = map_back map_cell map_one rows (map map_row (fin.entries s.maps)) (e ∙ sym (again map_row map_cell (fin.entries s.maps)))
 
-  shards_from : (rows : List ShardRow) → map shard_cell rows ≡ cells_of s group.Shards → rows ≡ map shard_row (members s.shards)
+  pub shards_from : (rows : List ShardRow) → map shard_cell rows ≡ cells_of s group.Shards → rows ≡ map shard_row (members s.shards)
   shards_from rows e = map_back shard_cell shard_one rows (map shard_row (members s.shards)) (e ∙ sym (again shard_row shard_cell (members s.shards)))
 
-  tables_from : (rows : List TableRow) → map table_cell rows ≡ cells_of s group.Tables → rows ≡ map table_row (members s.tables)
+  pub tables_from : (rows : List TableRow) → map table_cell rows ≡ cells_of s group.Tables → rows ≡ map table_row (members s.tables)
   tables_from rows e = map_back table_cell table_one rows (map table_row (members s.tables)) (e ∙ sym (again table_row table_cell (members s.tables)))
 
-  away_from : (rows : List AwayRow) → map away_cell rows ≡ cells_of s group.Away → rows ≡ map away_row (fin.entries s.away)
+  pub away_from : (rows : List AwayRow) → map away_cell rows ≡ cells_of s group.Away → rows ≡ map away_row (fin.entries s.away)
   away_from rows e = map_back away_cell away_one rows (map away_row (fin.entries s.away)) (e ∙ sym (again away_row away_cell (fin.entries s.away)))
 
-  jobs_from : (rows : List JobRow) → map cell.Job rows ≡ cells_of s group.Jobs → rows ≡ fin.values s.jobs
+  pub jobs_from : (rows : List JobRow) → map cell.Job rows ≡ cells_of s group.Jobs → rows ≡ fin.values s.jobs
   jobs_from rows e = map_back cell.Job (λ x y e. cc) rows (fin.values s.jobs) e
 
   known_from : (maps : List MapRow) (shards : List ShardRow) (tables : List TableRow) (away : List AwayRow) (jobs : List JobRow)

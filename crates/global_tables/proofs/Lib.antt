@@ -1,4 +1,6 @@
 pub mod CellOrder
+pub mod CopyEdits
+pub mod CopyLaws
 pub mod Counting
 pub mod Entries
 pub mod GroupCells
@@ -7,5 +9,7 @@ pub mod Least
 pub mod ListingLaws
 pub mod Neighbours
 pub mod Owners
+pub mod PlaceLaws
+pub mod PlacedCells
 pub mod Rising
 pub mod RowLaws

@@ -1,27 +1,27 @@
 -- A piece of a scan leads the list of a group on, or to its end.
-use Rattle.std.proofs.Common.{◌≡◌, ◌⊎◌, inl, inr, ℕ, ◌+◌, ◌-◌, ◌≤◌, ◌<◌, Bool, true, false, cond, List, [], ◌∷◌, ◌++◌, length, take, get_or, Option, Some, None, refl, sym, ap, ◌∙◌, subst, arith, true≢false}
-use Rattle.std.specs.Prelude.{IsTrue, filter, IfOk, Result, Ok, Err}
+use Rattle.std.proofs.Common.{◌≡◌, inl, inr, ℕ, ◌+◌, ◌-◌, ◌≤◌, ◌<◌, Bool, true, false, cond, List, [], ◌∷◌, ◌++◌, length, take, get_or, Option, Some, None, refl, sym, ap, ◌∙◌, subst, arith, true≢false}
+use Rattle.std.specs.Prelude.{IfOk, Result, Ok, Err}
 use Rattle.std.specs.Ordering.{is_lt, is_gt, ordering_reverse}
 use Rattle.std.specs.declared.cmp.Ordering.{Ordering}
 use Rattle.std.specs.declared.cmp.Ordering.TheVariants.{Less, Equal, Greater}
 use Rattle.std.proofs.lemmas.Cmp.{upto, tied_itself}
 use Rattle.std.proofs.lemmas.List.{take_more}
-use Rattle.cell_world.specs.Images.{Image, Global, global, image_at, end_of_trail}
+use Rattle.cell_world.specs.Images.{Global, global, image_at, end_of_trail}
 use Rattle.cell_world.specs.Lists.{IsOneOf}
-use Rattle.cell_world.specs.Stores.{Store, IsStore, Stands, own_key}
+use Rattle.cell_world.specs.Stores.{Store, IsStore, own_key}
 use Rattle.cell_world.specs.Finding.{IsScan, IsFromOn}
-use Rattle.cell_world.specs.Orders.{cell_cmp, kind_number}
+use Rattle.cell_world.specs.Orders.{cell_cmp}
 use Rattle.cell_world.specs.Outside.{Told, TellsNothing, TellsContents, TellsTrail, IfContents, TellsCells}
 use Rattle.cell_world.specs.declared.cells.Cell.{Cell}
 use Rattle.cell_world.specs.declared.cells.CellKey.{CellKey}
 use Rattle.global_tables.specs.declared.groups.Group.{Group}
 use Rattle.global_tables.specs.declared.faults.StepFault.{StepFault}
-use Rattle.global_tables.specs.Groups.{kind_of, least_of, is_in, inside, cells_of}
-use Rattle.global_tables.specs.Listing.{piece_size, cells_before, IsUpTo, Lists, GoesOn, TakesPiece}
+use Rattle.global_tables.specs.Groups.{least_of, is_in, inside, cells_of}
+use Rattle.global_tables.specs.Listing.{piece_size, cells_before, IsUpTo, Lists, LeavesLast, TakesPiece}
 use Rattle.global_tables.proofs.Rising.{Rising, same_rising, rising_filter, rising_append, rising_front, rising_across, in_filter, from_filter, in_left, in_right, in_either}
-use Rattle.global_tables.proofs.CellOrder.{Before, cell_total, not_itself, key_not_itself, before_trans, as_rising}
+use Rattle.global_tables.proofs.CellOrder.{Before, cell_total, not_itself, before_trans, as_rising}
 use Rattle.global_tables.proofs.GroupCells.{rise, stand, there}
-use Rattle.global_tables.proofs.Neighbours.{IsNear, kind_in, kind_least, from_least, in_before, in_inside, into_inside, rising_inside, short_inside, whole_inside, front_inside}
+use Rattle.global_tables.proofs.Neighbours.{IsNear, kind_in, kind_least, from_least, in_before, in_inside, into_inside, rising_inside, whole_inside, front_inside}
 
 -- ---- below and not below a key
 
@@ -68,16 +68,16 @@ module _ (s : Store) (store : IsStore s) (g : Group) (from : CellKey) (listed fo
   from_on c e n = record { kind = kind_in g (own_key c) e ∙ sym up.kind; order = n }
 
   listed_rises : Rising Before (cells_before from (cells_of s g))
-  listed_rises = rising_filter Before (λ c. is_lt (cell_cmp (own_key c) from)) (cells_of s g) (rise s store g)
+  listed_rises = rising_filter Before (λ c. is_lt (cell_cmp (own_key c) from)) (cells_of s g) (rise s store.keyed g)
 
   found_cell : (c : Cell) → IsOneOf (inside g found) c → IsOneOf (cells_of s g) c
-  found_cell c h = let i = in_inside g found c h in there s store g c (scan.stand c i.0).0 i.1
+  found_cell c h = let i = in_inside g found c h in there s store.keyed g c (scan.stand c i.0).0 i.1
 
   -- where some of a piece isn't of the group, or it isn't full, all is listed
   pub piece_ends : length (inside g found) < piece_size → cells_before from (cells_of s g) ++ inside g found ≡ cells_of s g
   piece_ends few = same_rising Before not_itself before_trans (cells_before from (cells_of s g) ++ inside g found) (cells_of s g)
       (rising_append Before (cells_before from (cells_of s g)) (inside g found) listed_rises rest_rises (λ x y h m. across x y h (in_inside g found y m).0))
-      (rise s store g)
+      (rise s store.keyed g)
       (λ q h. elim (in_either (cells_before from (cells_of s g)) (inside g found) q h) [
         | inl m ↦ (in_filter (λ c. is_lt (cell_cmp (own_key c) from)) (cells_of s g) q m).0
         | inr m ↦ found_cell q m
@@ -87,7 +87,7 @@ module _ (s : Store) (store : IsStore s) (g : Group) (from : CellKey) (listed fo
       by : (q : Cell) → IsOneOf (cells_of s g) q → (b : Bool) → is_lt (cell_cmp (own_key q) from) ≡ b → IsOneOf (cells_before from (cells_of s g) ++ inside g found) q
       by q h true e = in_left (cells_before from (cells_of s g)) (inside g found) q (from_filter (λ c. is_lt (cell_cmp (own_key c) from)) (cells_of s g) q h e)
       by q h false e =
-          let i = stand s store g q h in
+          let i = stand s store.keyed g q h in
           elim (scan.all q i.0 (from_on q i.1 e)) [
             | inl among ↦ in_right (cells_before from (cells_of s g)) (inside g found) q (into_inside g found (as_rising found scan.rises) near q among i.1)
             | inr rest ↦
@@ -112,7 +112,7 @@ module _ (s : Store) (store : IsStore s) (g : Group) (from : CellKey) (listed fo
       least = (near last (in_inside g found last last_in).0).1;
       cells = same_rising Before not_itself before_trans (cells_before from (cells_of s g) ++ front) (cells_before (own_key last) (cells_of s g))
           (rising_append Before (cells_before from (cells_of s g)) front listed_rises (rising_front Before front (last ∷ []) split_rises) (λ x y h m. across x y h (in_inside g found y (front_in y m)).0))
-          (rising_filter Before (λ c. is_lt (cell_cmp (own_key c) (own_key last))) (cells_of s g) (rise s store g))
+          (rising_filter Before (λ c. is_lt (cell_cmp (own_key c) (own_key last))) (cells_of s g) (rise s store.keyed g))
           (λ q h. elim (in_either (cells_before from (cells_of s g)) front q h) [
             | inl m ↦ from_filter (λ c. is_lt (cell_cmp (own_key c) (own_key last))) (cells_of s g) q (in_filter (λ c. is_lt (cell_cmp (own_key c) from)) (cells_of s g) q m).0 (ap is_lt (across q last m (in_inside g found last last_in).0))
             | inr m ↦ from_filter (λ c. is_lt (cell_cmp (own_key c) (own_key last))) (cells_of s g) q (found_cell q (front_in q m)) (ap is_lt (rising_across Before front (last ∷ []) split_rises q last m (inl refl)))
@@ -123,7 +123,7 @@ module _ (s : Store) (store : IsStore s) (g : Group) (from : CellKey) (listed fo
         by : (q : Cell) → IsOneOf (cells_of s g) q → Before q last → (b : Bool) → is_lt (cell_cmp (own_key q) from) ≡ b → IsOneOf (cells_before from (cells_of s g) ++ front) q
         by q h less true e = in_left (cells_before from (cells_of s g)) front q (from_filter (λ c. is_lt (cell_cmp (own_key c) from)) (cells_of s g) q h e)
         by q h less false e =
-            let i = stand s store g q h in
+            let i = stand s store.keyed g q h in
             elim (scan.all q i.0 (from_on q i.1 e)) [
               | inl among ↦
                   elim (in_either front (last ∷ []) q (subst (λ cs. IsOneOf cs q) split (into_inside g found (as_rising found scan.rises) near q among i.1))) [
@@ -145,7 +145,7 @@ module _ (s : Store) (store : IsStore s) (g : Group) (from : CellKey) (listed fo
 -- ---- what is taken of a piece
 
 pub goes_on : (g : Group) (found olds news : List Cell) (count : ℕ) (last : Cell) (next : CellKey) → count ≡ length (inside g found) → count ≤ length found → piece_size ≤ count
-    → last ≡ get_or found (count - 1) last → news ≡ olds ++ take (count - 1) found → next ≡ own_key last → GoesOn g found olds news next
+    → last ≡ get_or found (count - 1) last → news ≡ olds ++ take (count - 1) found → next ≡ own_key last → LeavesLast g found olds news next
 goes_on g found olds news count last next is within full at listed key =
     let one : count - 1 + 1 ≡ count = omega (arith, full) in
     let low : count - 1 < length found = omega (arith, full, within) in
@@ -163,7 +163,7 @@ goes_on g found olds news count last next is within full at listed key =
 nothing_before : (s : Store) (store : IsStore s) (g : Group) (cs : List Cell) → ((c : Cell) → IsOneOf cs c → IsOneOf (cells_of s g) c) → [] ≡ cells_before (least_of g) cs
 nothing_before s store g [] h = refl
 nothing_before s store g (c ∷ cs) h =
-    let i = stand s store g c (h c (inl refl)) in
+    let i = stand s store.keyed g c (h c (inl refl)) in
     nothing_before s store g cs (λ d m. h d (inr m)) ∙ sym (ap (λ b. cond b (c ∷ cells_before (least_of g) cs) (cells_before (least_of g) cs)) (from_least g c (store.cells c i.0).typed i.1))
 
 pub list_begins : (s : Store) (store : IsStore s) (g : Group) → IsUpTo s g (least_of g) []

@@ -44,6 +44,7 @@ kind_least group.Shards = refl
 kind_least (group.ShardsOf name) = refl
 kind_least group.Tables = refl
 kind_least (group.TablesOf name) = refl
+kind_least group.Pieces = refl
 kind_least (group.PiecesOf name) = refl
 kind_least group.Log = refl
 kind_least group.Jobs = refl
@@ -68,6 +69,8 @@ from_least group.Tables (cell.Table name table) t e =
     not_less (byte_cmp name (65 ∷ [])) (ordering_then (byte_cmp table (65 ∷ [])) Equal) (name_least name t.0) (not_less (byte_cmp table (65 ∷ [])) Equal (name_least table t.1) refl)
 from_least (group.TablesOf of) (cell.Table name table) t e =
     not_less (byte_cmp name of) (ordering_then (byte_cmp table (65 ∷ [])) Equal) (tied_not_less of name e) (not_less (byte_cmp table (65 ∷ [])) Equal (name_least table t.1) refl)
+from_least group.Pieces (cell.Piece p) t e =
+    not_less (byte_cmp p.map (65 ∷ [])) (ordering_then (byte_cmp (low_of p.span) []) Equal) (name_least p.map t.map) (not_less (byte_cmp (low_of p.span) []) Equal (never_less (byte_cmp (low_of p.span) []) (empty_least (low_of p.span))) refl)
 from_least (group.PiecesOf of) (cell.Piece p) t e =
     not_less (byte_cmp p.map of) (ordering_then (byte_cmp (low_of p.span) []) Equal) (tied_not_less of p.map e) (not_less (byte_cmp (low_of p.span) []) Equal (never_less (byte_cmp (low_of p.span) []) (empty_least (low_of p.span))) refl)
 from_least group.Log (cell.Log op) t e = not_less (ordering_then (nat_cmp op.number 0) Equal) Equal (one_least op.number) refl
@@ -98,6 +101,7 @@ of_before group.Shards a b k f less e = refl
 of_before (group.ShardsOf name) (at.Shard n l) (at.Shard m o) k f less e = between n m name (ordering_then (byte_cmp l o) Equal) (ordering_then (byte_cmp l least_location) Equal) e less f
 of_before group.Tables a b k f less e = refl
 of_before (group.TablesOf name) (at.Table n l) (at.Table m o) k f less e = between n m name (ordering_then (byte_cmp l o) Equal) (ordering_then (byte_cmp l (65 ∷ [])) Equal) e less f
+of_before group.Pieces a b k f less e = refl
 of_before (group.PiecesOf name) (at.Piece n l) (at.Piece m o) k f less e = between n m name (ordering_then (byte_cmp l o) Equal) (ordering_then (byte_cmp l []) Equal) e less f
 of_before group.Log a b k f less e = refl
 of_before group.Jobs a b k f less e = refl

@@ -1,5 +1,5 @@
 -- The greatest mapping at or below a key is its owner, if it contains it.
-use Rattle.std.proofs.Common.{◌≡◌, inl, inr, Bool, true, false, cond, not, Option, Some, None, option_map, refl, sym, ap, ◌∙◌, subst, true≢false}
+use Rattle.std.proofs.Common.{◌≡◌, Bool, true, false, cond, not, Option, Some, None, option_map, refl, sym, ap, ◌∙◌, subst, true≢false}
 use Rattle.std.specs.Prelude.{IsTrue}
 use Rattle.std.specs.FinMap as map
 use Rattle.std.specs.Ordering.{is_gt, ordering_then}
@@ -12,7 +12,7 @@ use Rattle.cell_world.specs.Images.{Image, Global, global, image_at, end_of_trai
 use Rattle.cell_world.specs.Keys.{contains, low_of, at_most}
 use Rattle.cell_world.specs.Meaning.{owner_of}
 use Rattle.cell_world.specs.Sound.{Sound, HasPiece, IsKeyOf}
-use Rattle.cell_world.specs.Stores.{Stands, piece_key, own_key}
+use Rattle.cell_world.specs.Stores.{Stands, piece_key}
 use Rattle.cell_world.specs.Finding.{IsFloor, IsAtOrBelow}
 use Rattle.cell_world.specs.Orders.{cell_cmp}
 use Rattle.cell_world.specs.Outside.{Told, TellsNothing, TellsContents, TellsTrail, IfContents}

@@ -98,6 +98,10 @@ pub rising_front : {A : Type 0} (Before : A → A → Type 0) (xs ys : List A) �
 rising_front Before [] ys r = tt
 rising_front Before (x ∷ xs) ys r = (λ y h. r.0 y (in_left xs ys y h), rising_front Before xs ys r.1)
 
+pub rising_back : {A : Type 0} (Before : A → A → Type 0) (xs ys : List A) → Rising Before (xs ++ ys) → Rising Before ys
+rising_back Before [] ys r = r
+rising_back Before (x ∷ xs) ys r = rising_back Before xs ys r.1
+
 pub rising_across : {A : Type 0} (Before : A → A → Type 0) (xs ys : List A) → Rising Before (xs ++ ys) → (x y : A) → IsOneOf xs x → IsOneOf ys y → Before x y
 rising_across Before [] ys r x y h g = absurd h
 rising_across Before (z ∷ zs) ys r x y (inl is) g = subst (λ w. Before w y) is (r.0 y (in_right zs ys y g))

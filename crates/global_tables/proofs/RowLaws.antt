@@ -1,18 +1,17 @@
 -- What the cells of a list say, told from the cells.
-use Rattle.std.proofs.Common.{◌≡◌, Bool, true, false, cond, List, [], ◌∷◌, map, Option, Some, None, refl, sym, ap, ◌∙◌}
+use Rattle.std.proofs.Common.{◌≡◌, Bool, true, false, cond, List, [], ◌∷◌, map, Some, None, refl, sym, ap, ◌∙◌}
 use Rattle.std.specs.Prelude.{filter, filter_map, IfOk, Result, Ok, Err}
 use Rattle.std.specs.List.{cons_option}
 use Rattle.std.specs.FinMap as fin
 use Rattle.cell_world.specs.Texts.{Text}
 use Rattle.cell_world.specs.Keys.{same}
-use Rattle.cell_world.specs.Images.{Image, global, image_at, end_of_trail}
+use Rattle.cell_world.specs.Images.{Image, image_at, end_of_trail}
 use Rattle.cell_world.specs.Stores.{Store}
 use Rattle.cell_world.specs.Outside.{Told, TellsNothing, TellsContents, TellsTrail, IfContents}
 use Rattle.cell_world.specs.declared.cells.Cell.{Cell}
 use Rattle.cell_world.specs.declared.cells.Cell.TheVariants as cell
 use Rattle.cell_world.specs.declared.operations.Piece.{Piece}
 use Rattle.cell_world.specs.declared.operations.Op.{Op}
-use Rattle.global_tables.specs.declared.groups.Group.{Group}
 use Rattle.global_tables.specs.declared.groups.Group.TheVariants as group
 use Rattle.global_tables.specs.declared.rows.ShardRow.{ShardRow}
 use Rattle.global_tables.specs.declared.faults.StepFault.{StepFault}

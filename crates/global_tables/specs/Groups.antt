@@ -1,8 +1,6 @@
 -- Groups of cells that are listed and counted, and what a list of cells of a group has come to.
 use Rattle.std.specs.Prelude.{ℕ, Bool, true, false, ◌&&◌, ◌==◌, List, [], ◌∷◌, map, length, filter, filter_map, Option, Some, None, if◌then◌else◌}
 use Rattle.std.specs.FinMap as fin
-use Rattle.std.specs.FinSet as set
-use Rattle.std.specs.declared.cmp.Ordering.{Ordering}
 use Rattle.cell_world.specs.Texts.{Text}
 use Rattle.cell_world.specs.Keys.{same}
 use Rattle.cell_world.specs.Members.{members}
@@ -40,6 +38,7 @@ kind_of group.Shards = 2
 kind_of (group.ShardsOf name) = 2
 kind_of group.Tables = 3
 kind_of (group.TablesOf name) = 3
+kind_of group.Pieces = 4
 kind_of (group.PiecesOf name) = 4
 kind_of group.Log = 5
 kind_of group.Jobs = 6
@@ -63,6 +62,7 @@ least_of group.Shards = at.Shard (65 ∷ []) least_location
 least_of (group.ShardsOf name) = at.Shard name least_location
 least_of group.Tables = at.Table (65 ∷ []) (65 ∷ [])
 least_of (group.TablesOf name) = at.Table name (65 ∷ [])
+least_of group.Pieces = at.Piece (65 ∷ []) []
 least_of (group.PiecesOf name) = at.Piece name []
 least_of group.Log = at.Log 0
 least_of group.Jobs = at.Job 0
@@ -92,6 +92,7 @@ count_of s group.Shards = length (members s.shards)
 count_of s (group.ShardsOf name) = length (shards_in s.shards name)
 count_of s group.Tables = length (members s.tables)
 count_of s (group.TablesOf name) = length (tables_in s.tables name)
+count_of s group.Pieces = fin.len s.mappings
 count_of s (group.PiecesOf name) = length (pieces_in s.mappings name)
 count_of s group.Log = fin.len s.log
 count_of s group.Jobs = fin.len s.jobs
@@ -104,6 +105,7 @@ cells_of s group.Shards = map (λ shard. cell.Shard shard.0 shard.1) (members s.
 cells_of s (group.ShardsOf name) = map (λ shard. cell.Shard shard.0 shard.1) (shards_in s.shards name)
 cells_of s group.Tables = map (λ table. cell.Table table.0 table.1) (members s.tables)
 cells_of s (group.TablesOf name) = map (λ table. cell.Table table.0 table.1) (tables_in s.tables name)
+cells_of s group.Pieces = map cell.Piece (fin.values s.mappings)
 cells_of s (group.PiecesOf name) = map cell.Piece (pieces_in s.mappings name)
 cells_of s group.Log = map cell.Log (fin.values s.log)
 cells_of s group.Jobs = map cell.Job (fin.values s.jobs)

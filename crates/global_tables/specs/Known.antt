@@ -1,5 +1,5 @@
 -- What is known of the global store by a copy: five lists.
-use Rattle.std.specs.Prelude.{ℕ, List, map}
+use Rattle.std.specs.Prelude.{List, map}
 use Rattle.std.specs.FinMap as fin
 use Rattle.cell_world.specs.Texts.{Text}
 use Rattle.cell_world.specs.Stores.{Store}

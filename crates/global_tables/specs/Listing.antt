@@ -30,7 +30,7 @@ Lists s g listed None = listed ≡ cells_of s g
 Lists s g listed (Some from) = IsUpTo s g from listed
 
 -- Where a whole piece is of the group, all but its last cell are listed, and the next piece begins with that one.
-pub record GoesOn (g : Group) (found olds news : List Cell) (next : CellKey) : Type 0 where
+pub record LeavesLast (g : Group) (found olds news : List Cell) (next : CellKey) : Type 0 where
   pub front : List Cell
   pub last : Cell
   pub whole : piece_size ≤ length (inside g found)
@@ -41,4 +41,4 @@ pub record GoesOn (g : Group) (found olds news : List Cell) (next : CellKey) : T
 -- what is listed of a piece that was found, and where it goes on
 abbrev pub TakesPiece : Group → List Cell → List Cell → List Cell → Option CellKey → Type 0
 TakesPiece g found olds news None = (length (inside g found) < piece_size) × (news ≡ olds ++ inside g found)
-TakesPiece g found olds news (Some next) = GoesOn g found olds news next
+TakesPiece g found olds news (Some next) = LeavesLast g found olds news next

@@ -21,7 +21,9 @@ pub enum Group {
     Tables,
     /// Those of one map.
     TablesOf(Name),
-    /// The mappings of one map.
+    /// The mappings.
+    Pieces,
+    /// Those of one map.
     PiecesOf(Name),
     /// The operations that aren't committed.
     Log,
@@ -41,6 +43,7 @@ impl Group {
             Group::ShardsOf(_) => 2,
             Group::Tables => 3,
             Group::TablesOf(_) => 3,
+            Group::Pieces => 4,
             Group::PiecesOf(_) => 4,
             Group::Log => 5,
             Group::Jobs => 6,
@@ -59,6 +62,7 @@ impl Group {
             Group::Maps => None,
             Group::Shards => None,
             Group::Tables => None,
+            Group::Pieces => None,
             Group::Log => None,
             Group::Jobs => None,
             Group::Away => None,
@@ -77,6 +81,7 @@ impl Group {
             Group::ShardsOf(of) => CellKey::Shard(*of, location),
             Group::Tables => CellKey::Table(name, name),
             Group::TablesOf(of) => CellKey::Table(*of, name),
+            Group::Pieces => CellKey::Piece(name, NormKey::of_bytes(b"").unwrap()),
             Group::PiecesOf(of) => CellKey::Piece(*of, NormKey::of_bytes(b"").unwrap()),
             Group::Log => CellKey::Log(0),
             Group::Jobs => CellKey::Job(0),

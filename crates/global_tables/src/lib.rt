@@ -8,6 +8,7 @@ mod keys;
 pub mod known;
 pub mod lists;
 pub mod lookups;
-mod pieces;
+pub mod pieces;
+mod places;
 pub mod reads;
 pub mod rows;

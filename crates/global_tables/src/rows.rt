@@ -1,11 +1,12 @@
 //! What a cell of one kind says.
 ghost use Rattle.std.specs.Prelude.{◌≡◌, option_map, IfOk, Err};
 ghost use Rattle.std.specs.Option.{MatchOption};
+ghost use Rattle.cell_world.specs.Stores.{own_key};
 ghost use Rattle.cell_world.specs.declared.cells.Cell.{Cell};
 ghost use Rattle.cell_world.specs.declared.cells.Cell.TheVariants as cell;
 
 use crate::faults::StepFault;
-use cell_world::cells::{Away, Cell, Counters, KeyType, LocalRow, MapKind};
+use cell_world::cells::{Away, Cell, CellKey, Counters, KeyType, LocalRow, MapKind};
 use cell_world::locations::Location;
 use cell_world::names::Name;
 use cell_world::operations::{JobRow, Op, Piece};
@@ -18,6 +19,10 @@ pub trait Row: Copy + Drop {
     /// What the cell says. `None` exactly for a cell of another kind. Takes no memory.
     fn read(found: &Cell) -> Option<Self>
         ensures { MatchOption result ((row : Self) → found.now ≡ cell_of row → ⊥) (λ row. found.now ≡ cell_of row) };
+
+    /// The key under which its cell stands. Takes no memory.
+    fn key(&self) -> CellKey
+        ensures { result ≡ own_key (cell_of self.now) };
 }
 
 /// A map: its name, its kind and the type of its keys.
@@ -62,6 +67,10 @@ impl Row for MapRow {
             _ => None,
         }
     }
+
+    fn key(&self) -> CellKey {
+        CellKey::Map(self.name)
+    }
 }
 
 impl Row for ShardRow {
@@ -75,6 +84,10 @@ impl Row for ShardRow {
             }),
             _ => None,
         }
+    }
+
+    fn key(&self) -> CellKey {
+        CellKey::Shard(self.map, self.location)
     }
 }
 
@@ -90,6 +103,10 @@ impl Row for TableRow {
             _ => None,
         }
     }
+
+    fn key(&self) -> CellKey {
+        CellKey::Table(self.map, self.table)
+    }
 }
 
 impl Row for AwayRow {
@@ -104,6 +121,10 @@ impl Row for AwayRow {
             _ => None,
         }
     }
+
+    fn key(&self) -> CellKey {
+        CellKey::SiteState(self.location)
+    }
 }
 
 impl Row for Piece {
@@ -114,6 +135,10 @@ impl Row for Piece {
             Cell::Piece(row) => Some(*row),
             _ => None,
         }
+    }
+
+    fn key(&self) -> CellKey {
+        CellKey::Piece(self.map, *self.span.low())
     }
 }
 
@@ -126,6 +151,10 @@ impl Row for Op {
             _ => None,
         }
     }
+
+    fn key(&self) -> CellKey {
+        CellKey::Log(self.number)
+    }
 }
 
 impl Row for JobRow {
@@ -136,6 +165,10 @@ impl Row for JobRow {
             Cell::Job(row) => Some(*row),
             _ => None,
         }
+    }
+
+    fn key(&self) -> CellKey {
+        CellKey::Job(self.number)
     }
 }
 
@@ -148,6 +181,10 @@ impl Row for Counters {
             _ => None,
         }
     }
+
+    fn key(&self) -> CellKey {
+        CellKey::Counter
+    }
 }
 
 impl Row for LocalRow {
@@ -158,6 +195,10 @@ impl Row for LocalRow {
             Cell::Local(row) => Some(*row),
             _ => None,
         }
+    }
+
+    fn key(&self) -> CellKey {
+        CellKey::Local(self.map, *self.span.low(), self.number)
     }
 }
 

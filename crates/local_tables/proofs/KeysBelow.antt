@@ -1,16 +1,15 @@
 -- The key just below another one: its front where it ends with a zero, else its last byte less one, and the greatest bytes behind.
-use Rattle.std.proofs.Common.{◌≡◌, ◌⊎◌, inl, inr, ℕ, zero, suc, ◌+◌, ◌-◌, ◌≤◌, ◌<◌, Bool, true, false, cond, not, ◌&&◌, List, [], ◌∷◌, ◌++◌, length, take, get_or, set, Option, Some, None, refl, sym, ap, ◌∙◌, subst, arith, true≢false, nat_lt, nat_le}
-use Rattle.std.specs.Prelude.{IsTrue, replicate}
+use Rattle.std.proofs.Common.{◌≡◌, ◌⊎◌, inl, inr, ℕ, zero, suc, ◌+◌, ◌-◌, ◌≤◌, ◌<◌, true, false, not, [], ◌∷◌, ◌++◌, length, take, get_or, set, Option, Some, None, refl, sym, ap, ◌∙◌, subst, arith, nat_lt, nat_le}
+use Rattle.std.specs.Prelude.{replicate}
 use Rattle.std.specs.Option.{MatchOption, SomeIff}
 use Rattle.std.specs.Ordering.{is_lt, is_gt, nat_cmp, ordering_then, MatchOrdering}
 use Rattle.std.specs.declared.cmp.Ordering.{Ordering}
 use Rattle.std.specs.declared.cmp.Ordering.TheVariants.{Less, Equal, Greater}
-use Rattle.std.proofs.lemmas.Cmp.{ranked, tied_itself, nat_list_cmp_total, nat_cmp_total}
+use Rattle.std.proofs.lemmas.Cmp.{ranked, tied_itself, nat_cmp_total}
 use Rattle.std.proofs.lemmas.Bool.{and_parts}
 use Rattle.std.proofs.lemmas.List.{take_more, take_all, length-take-le, length-append, length-replicate}
 use Rattle.cell_world.specs.Texts.{Text, are_bytes, is_key_form}
 use Rattle.cell_world.specs.ByteOrder.{byte_cmp}
-use Rattle.cell_world.specs.Keys as keys
 use Rattle.local_tables.specs.Below.{IsJustBelow}
 
 pub is_less : (r : Ordering) → is_lt r ≡ true → r ≡ Less

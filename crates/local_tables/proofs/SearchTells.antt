@@ -1,26 +1,24 @@
 -- The whole search, over what is told.
-use Rattle.std.proofs.Common.{◌≡◌, ◌⊎◌, ℕ, ◌+◌, ◌≤◌, ◌<◌, Bool, true, false, cond, not, ◌&&◌, List, Option, Some, None, refl, sym, ap, ◌∙◌, subst, arith}
-use Rattle.std.specs.Prelude.{Result, Ok, Err, IfOk, IsTrue, unwrap_or, option_map}
+use Rattle.std.proofs.Common.{◌≡◌, ℕ, ◌+◌, ◌≤◌, ◌<◌, ◌&&◌, List, Option, refl, sym, ap, ◌∙◌, subst, arith}
+use Rattle.std.specs.Prelude.{Result, Ok, unwrap_or, option_map}
 use Rattle.std.specs.FinMap as fin
 use Rattle.std.specs.Ordering.{is_gt, nat_cmp}
 use Rattle.std.proofs.lemmas.Bool.{and_parts}
 use Rattle.cell_world.specs.Texts.{Text}
 use Rattle.cell_world.specs.ByteOrder.{byte_cmp}
-use Rattle.cell_world.specs.Images.{Image, global, IsImage, image_at, end_of_trail}
-use Rattle.cell_world.specs.Keys.{same, contains, low_of, at_most}
+use Rattle.cell_world.specs.Images.{Image, global}
+use Rattle.cell_world.specs.Keys.{same, contains, low_of}
 use Rattle.cell_world.specs.Stores.{Store, IsStore, Log, Locals, empty_store}
-use Rattle.cell_world.specs.Outside.{Outside, Told, TellsNothing, TellsContents, TellsTrail, IfContents, TellsCells, IsSite, store_at, place_at}
-use Rattle.cell_world.specs.Meaning.{counts}
+use Rattle.cell_world.specs.Outside.{Outside, IfContents, TellsCells, IsSite, store_at, place_at}
 use Rattle.cell_world.specs.declared.cells.CellKey.{CellKey}
 use Rattle.cell_world.specs.declared.cells.CellKey.TheVariants as at
-use Rattle.cell_world.specs.declared.cells.LocalRow.{LocalRow}
 use Rattle.cell_world.specs.declared.cells.Site.{Site}
 use Rattle.cell_world.specs.declared.cells.Status.{Status}
 use Rattle.cell_world.proofs.SpanLaws.{same_is, at_most_self, low_at_most}
 use Rattle.global_tables.specs.declared.faults.StepFault.{StepFault}
 use Rattle.local_tables.specs.declared.judging.Look.{Look}
 use Rattle.local_tables.specs.declared.judging.Look.TheVariants.{Ends, Goes}
-use Rattle.local_tables.specs.Resolving.{is_over, is_marked, is_up_to, resolved, CountApart, marks_over, marks_left, IsFrom, NoneAbove, Looks, StaysFrom, left_after}
+use Rattle.local_tables.specs.Resolving.{is_over, is_marked, is_up_to, resolved, CountApart, marks_over, marks_left, IsFrom, NoneAbove, Looks, left_after}
 use Rattle.local_tables.proofs.BelowRows.{local_order, not_gt_no, number_up, not_gt_is}
 use Rattle.local_tables.proofs.KeysBelow.{not_greater}
 use Rattle.local_tables.proofs.Searching.{local_typed, fewer}

@@ -1,6 +1,6 @@
 -- A search from a key downwards finds the counted row over it, and reads the log at most once for each marked row over it.
-use Rattle.std.proofs.Common.{◌≡◌, ◌⊎◌, inl, inr, ℕ, ◌+◌, ◌≤◌, ◌<◌, Bool, true, false, cond, not, ◌&&◌, List, [], ◌∷◌, length, Option, Some, None, option_map, is_some, refl, sym, ap, ◌∙◌, subst, arith, true≢false}
-use Rattle.std.specs.Prelude.{IsTrue, filter, find, Result, Ok, Err, IfOk}
+use Rattle.std.proofs.Common.{◌≡◌, inl, inr, ℕ, ◌+◌, ◌≤◌, Bool, true, false, cond, not, ◌&&◌, List, [], ◌∷◌, length, Option, Some, None, option_map, refl, sym, ap, ◌∙◌, subst, arith, true≢false}
+use Rattle.std.specs.Prelude.{filter, find, Result, Ok, Err, IfOk}
 use Rattle.std.specs.FinMap as fin
 use Rattle.std.specs.Ordering.{is_gt, nat_cmp, ordering_then, ordering_reverse}
 use Rattle.std.specs.declared.cmp.Ordering.{Ordering}
@@ -13,28 +13,26 @@ use Rattle.cell_world.specs.Keys.{same, contains, low_of, at_most}
 use Rattle.cell_world.specs.Lists.{IsOneOf}
 use Rattle.cell_world.specs.Orders.{local_cmp}
 use Rattle.cell_world.specs.Spelled.{IsLocalRow}
-use Rattle.cell_world.specs.Stores.{Store, IsStore, Stands, Log, Locals, local_key, own_key}
+use Rattle.cell_world.specs.Stores.{Store, IsStore, Stands, Log, local_key, own_key}
 use Rattle.cell_world.specs.Finding.{IsFloor, IsAtOrBelow}
 use Rattle.cell_world.specs.Orders.{cell_cmp, kind_number, map_of}
 use Rattle.cell_world.specs.Meaning.{counts, counts_with}
 use Rattle.cell_world.specs.Sound.{HasLocal}
-use Rattle.cell_world.specs.declared.cells.Cell.{Cell}
 use Rattle.cell_world.specs.declared.cells.Cell.TheVariants as cell
 use Rattle.cell_world.specs.declared.cells.CellKey.{CellKey}
 use Rattle.cell_world.specs.declared.cells.CellKey.TheVariants as at
 use Rattle.cell_world.specs.declared.cells.LocalRow.{LocalRow}
-use Rattle.cell_world.specs.declared.cells.Status.{Status}
 use Rattle.cell_world.specs.declared.cells.Mark.{Mark}
 use Rattle.cell_world.specs.declared.cells.Mark.TheVariants.{Plain, Old, New}
 use Rattle.cell_world.proofs.OrderLaws.{locals_total, exact_locals}
-use Rattle.cell_world.proofs.SpanLaws.{same_is, same_self, contains_between, low_at_most, at_most_trans}
+use Rattle.cell_world.proofs.SpanLaws.{same_is, same_self, contains_between, at_most_trans}
 use Rattle.image_laws.proofs.ValueLaws.{value_found, value_there}
 use Rattle.global_tables.specs.declared.faults.StepFault.{StepFault}
 use Rattle.global_tables.proofs.CellOrder.{cell_total, by_number}
 use Rattle.global_tables.proofs.GroupCells as group_cells
 use Rattle.local_tables.specs.declared.judging.Look.{Look}
 use Rattle.local_tables.specs.declared.judging.Look.TheVariants.{Ends, Goes}
-use Rattle.local_tables.specs.Resolving.{is_over, resolved, CountApart, log_reads, is_marked, marks_over, is_up_to, marks_left, IsFrom, NoneAbove, IsBefore, IsBelowRow, IsLowest, Judges, reads_over, Looks, StaysFrom, left_after}
+use Rattle.local_tables.specs.Resolving.{is_over, resolved, CountApart, log_reads, is_marked, is_up_to, marks_left, IsFrom, NoneAbove, IsBefore, IsBelowRow, Judges, reads_over, Looks, StaysFrom, left_after}
 use Rattle.local_tables.proofs.BelowRows.{local_order}
 
 -- ---- tests

@@ -1,11 +1,9 @@
 -- In a sound image at most one local row counts over a key.
-use Rattle.std.proofs.Common.{◌≡◌, Bool, true, refl, sym, ap, ◌∙◌, subst}
-use Rattle.std.specs.Prelude.{IsTrue}
+use Rattle.std.proofs.Common.{◌≡◌, true, sym, ap, ◌∙◌, subst}
 use Rattle.cell_world.specs.Texts.{Text}
 use Rattle.cell_world.specs.Images.{Image, Shard, global}
 use Rattle.cell_world.specs.Keys.{contains, low_of}
 use Rattle.cell_world.specs.Sound.{Sound, IsAttachedIn, IsSuspectIn}
-use Rattle.cell_world.specs.declared.cells.LocalRow.{LocalRow}
 use Rattle.cell_world.specs.declared.operations.Piece.{Piece}
 use Rattle.cell_world.proofs.SpanLaws.{overlaps_shared, holds_low}
 use Rattle.local_tables.specs.Resolving.{CountApart}

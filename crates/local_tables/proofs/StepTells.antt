@@ -1,19 +1,18 @@
 -- One step of the search, over what is told.
-use Rattle.std.proofs.Common.{◌≡◌, ◌⊎◌, ℕ, ◌+◌, ◌≤◌, ◌<◌, Bool, true, false, cond, Option, Some, None, option_map, refl, sym, ap, ◌∙◌, subst, arith}
+use Rattle.std.proofs.Common.{◌≡◌, ℕ, ◌+◌, ◌≤◌, ◌<◌, Bool, true, false, cond, Option, Some, None, option_map, refl, ap, subst, arith}
 use Rattle.std.specs.Prelude.{Result, Ok, Err, IfOk, IsSome, unwrap_or, ◌==◌}
 use Rattle.cell_world.specs.Texts.{Text}
 use Rattle.cell_world.specs.Counts.{one_more}
-use Rattle.cell_world.specs.Images.{Image, Place, Global, global, IsImage, image_at, end_of_trail}
-use Rattle.cell_world.specs.Stores.{Store, IsStore, empty_store, Log, Locals}
+use Rattle.cell_world.specs.Images.{Image, Place, global, IsImage, image_at, end_of_trail}
+use Rattle.cell_world.specs.Stores.{IsStore, empty_store, Locals}
 use Rattle.cell_world.specs.Finding.{IsFloor}
-use Rattle.cell_world.specs.Outside.{Outside, Told, TellsNothing, TellsContents, TellsTrail, IfContents, TellsCells, IsSite, OfStore, store_at, place_at, read_at}
+use Rattle.cell_world.specs.Outside.{Outside, Told, TellsNothing, TellsContents, TellsTrail, IfContents, TellsCells, IsSite, store_at, place_at, read_at}
 use Rattle.cell_world.specs.declared.cells.Cell.TheVariants as cell
 use Rattle.cell_world.specs.declared.cells.CellKey.{CellKey}
 use Rattle.cell_world.specs.declared.cells.LocalRow.{LocalRow}
 use Rattle.cell_world.specs.declared.cells.Site.{Site}
 use Rattle.global_tables.specs.declared.faults.StepFault.{StepFault}
 use Rattle.local_tables.specs.declared.judging.Look.{Look}
-use Rattle.local_tables.specs.declared.judging.Look.TheVariants.{Ends, Goes}
 use Rattle.local_tables.specs.Resolving.{resolved, CountApart, marks_left, IsFrom, NoneAbove, Judges, reads_over, Looks, StaysFrom, left_after}
 use Rattle.local_tables.proofs.Searching.{looks_row, stays_row, reads_row, looks_nothing}
 

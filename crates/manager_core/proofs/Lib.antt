@@ -1,2 +1,4 @@
-pub mod Events
+pub mod Copies
+pub mod Counting
+pub mod EventLaws
 pub mod ShortAnswers

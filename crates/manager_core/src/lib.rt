@@ -1,6 +1,7 @@
-//! The core of the manager: it owns a world and the history, and takes one event after the other.
+//! The core of the manager: it owns a world, the history and a copy of the tables, and takes one event after the other.
 #![tactic(auto)]
 
 mod answers;
 mod lines;
 pub mod manager;
+pub mod opening;

@@ -1,1 +1,6 @@
-pub mod MapPlans
+pub mod AskingLaws
+pub mod KnownLocations
+pub mod PlanLaws
+pub mod RefusalLaws
+pub mod ShortChanges
+pub mod UnmapLaws

@@ -1,35 +1,97 @@
 -- What a plan says.
-use Rattle.std.specs.Prelude.{◌≡◌, ℕ, Bool, true, false, Result, Ok, Err, []}
-use Rattle.cell_world.specs.Images.{Image}
+use Rattle.std.specs.Prelude.{◌≡◌, ℕ, Bool, true, false, Option, None, Result, Ok, Err, List, []}
+use Rattle.cell_world.specs.Images.{Image, global}
+use Rattle.cell_world.specs.Plain.{PlainState, Connections}
 use Rattle.cell_world.specs.Meaning.{meaning}
+use Rattle.cell_world.specs.Operations.{conflicts}
+use Rattle.cell_world.specs.Sound.{Sound, HasLog}
+use Rattle.cell_world.specs.declared.changes.Edit.{Edit}
+use Rattle.cell_world.specs.declared.operations.Op.{Op}
+use Rattle.cell_world.specs.declared.operations.Reach.{Reach}
+use Rattle.global_tables.specs.Known.{Known, known_of}
 use Rattle.plain_model.specs.declared.commands.Command.{Command}
 use Rattle.plain_model.specs.declared.commands.Command.TheVariants as command
 use Rattle.plain_model.specs.declared.plans.Plan.{Plan}
 use Rattle.plain_model.specs.declared.plans.Plan.TheVariants as plan
 use Rattle.plain_model.specs.declared.plans.PlanStop.{PlanStop}
 use Rattle.plain_model.specs.declared.plans.PlanStop.TheVariants as stop
+use Rattle.plain_model.specs.declared.replies.Reply.{Reply}
+use Rattle.plain_model.specs.declared.replies.Refusal.{Refusal}
 use Rattle.plain_model.specs.OnTrail.{logs_put, reach_of_command}
-use Rattle.plain_model.specs.ShortCommands.{is_short_answer, is_short_refusal, is_word_reply, IsShortChange, IsShortAnswer, IsRefusedWith}
+use Rattle.plain_model.specs.Refusing.{Check, refusal}
+use Rattle.plain_model.specs.ShortCommands.{is_short_answer, is_short_refusal, standing_with, IsShortChange, IsShortAnswer, IsRefusedWith}
 
--- the commands that are planned so far
+-- the commands that are planned here
 abbrev pub is_planned : Command → Bool
 is_planned (command.Map name kind type) = true
+is_planned (command.Unmap name) = true
+is_planned (command.Shard name location) = true
+is_planned (command.Table name table) = true
+is_planned (command.Unshard name location) = true
+is_planned (command.Shards name) = true
+is_planned (command.Find name key) = true
+is_planned (command.List name) = true
 is_planned other = false
 
--- On this image, which is sound, the plan is the plain step's, for any session; and a change has the command's reach.
+-- ---- on an image
+
+-- what the command table says to the command, for any session and whoever is connected
+abbrev pub Refuses : Command → Option Refusal → Image → Type 0
+Refuses c refused image = (session : ℕ) (connections : Connections) → refusal (standing_with image connections) session c ≡ refused
+
+-- So it is where the copy of the tables is what the global cells say.
+abbrev pub RefusesWith : Known → Command → Option Refusal → Image → Type 0
+RefusesWith known c refused image = known ≡ known_of (global image) → Refuses c refused image
+
+-- So it is on whatever image of which this is the copy.
+abbrev pub RefusesOf : Known → Command → Option Refusal → Type 0
+RefusesOf known c refused = (image : Image) → RefusesWith known c refused image
+
+-- one check of the command table, on whatever image of which this is the copy
+abbrev pub ChecksWith : Known → (PlainState → Check) → Check → Type 0
+ChecksWith known test check = (image : Image) → known ≡ known_of (global image) → check ≡ test (meaning image)
+
+-- no logged operation conflicts with the reach
+abbrev pub NoneInWay : Image → Reach → Type 0
+NoneInWay image reached = (op : Op) → HasLog (global image).log op → conflicts reached op ≡ false
+
+-- The plan of a change.
+pub record PlansChange (c : Command) (reached : Reach) (change : List Edit) (r : Reply) (image : Image) : Type 0 where
+  -- it has the command's reach
+  pub reaches : reached ≡ reach_of_command (meaning image) c
+  -- the plain step doesn't refuse
+  pub accepts : Refuses c None image
+  -- once no logged operation conflicts with the reach, the change makes what the plain step makes, for any session
+  pub changes : NoneInWay image reached → (session : ℕ) → IsShortChange session c change r image
+
+-- On this image the plan is the plain step's, for any session.
 abbrev pub Plans : Command → Result Plan PlanStop → Image → Type 0
-Plans c (Ok (plan.Short reach change r)) image = (reach ≡ reach_of_command (meaning image) c) × ((session : ℕ) → IsShortChange session c change r image)
+Plans c (Ok (plan.Short reached change r)) image = PlansChange c reached change r image
 Plans c (Ok (plan.Answer r)) image = (session : ℕ) → IsShortAnswer session c r image
 Plans c (Ok (plan.Long op)) image = ⊥
 Plans c (Err (stop.Refused r)) image = (session : ℕ) → IsRefusedWith session c r image
 Plans c (Err stop.Store) image = Unit {0}
 Plans c (Err stop.Memory) image = Unit {0}
 
--- Whatever the image: no plan is a long one or puts a log cell, and what is answered is a word.
-abbrev pub IsPlanOfOneWord : Result Plan PlanStop → Type 0
-IsPlanOfOneWord (Ok (plan.Short reach change r)) = (logs_put change ≡ []) × (is_short_answer r ≡ true) × (is_word_reply r ≡ true)
-IsPlanOfOneWord (Ok (plan.Answer r)) = (is_short_answer r ≡ true) × (is_word_reply r ≡ true)
-IsPlanOfOneWord (Ok (plan.Long op)) = ⊥
-IsPlanOfOneWord (Err (stop.Refused r)) = is_short_refusal r ≡ true
-IsPlanOfOneWord (Err stop.Store) = Unit {0}
-IsPlanOfOneWord (Err stop.Memory) = Unit {0}
+-- It is so where the image is sound and the copy of the tables is what the global cells say.
+abbrev pub PlansWith : Known → Command → Result Plan PlanStop → Image → Type 0
+PlansWith known c result image = Sound image → known ≡ known_of (global image) → Plans c result image
+
+-- So it is on whatever image.
+abbrev pub PlansOf : Known → Command → Result Plan PlanStop → Type 0
+PlansOf known c result = (image : Image) → PlansWith known c result image
+
+-- ---- whatever the image
+
+-- No plan is a long one or puts a log cell, and what is answered or refused is said by a short command.
+abbrev pub IsShortPlan : Result Plan PlanStop → Type 0
+IsShortPlan (Ok (plan.Short reached change r)) = (logs_put change ≡ []) × (is_short_answer r ≡ true)
+IsShortPlan (Ok (plan.Answer r)) = is_short_answer r ≡ true
+IsShortPlan (Ok (plan.Long op)) = ⊥
+IsShortPlan (Err (stop.Refused r)) = is_short_refusal r ≡ true
+IsShortPlan (Err stop.Store) = Unit {0}
+IsShortPlan (Err stop.Memory) = Unit {0}
+
+-- No store call failed.
+abbrev pub IsCalm : Result Plan PlanStop → Type 0
+IsCalm result = result ≡ Err stop.Store → ⊥

@@ -1,75 +1,74 @@
-//! The plan of `map`.
-ghost use Rattle.std.specs.Prelude.{◌≡◌, IfOk, IsErrOf, nat_le};
-ghost use Rattle.std.specs.FinMap as map;
-ghost use Rattle.cell_world.specs.Counts.{Rose};
-ghost use Rattle.cell_world.specs.Images.{global};
-ghost use Rattle.cell_world.specs.Outside.{IfContents, IsLater};
-ghost use Rattle.cell_world.specs.Sound.{Sound};
-ghost use Rattle.cell_world.specs.declared.limits.TheConstants.{MOST_MAPS};
-ghost use Rattle.map_ops.specs.Planning.{Plans, IsPlanOfOneWord};
+//! The plans of `map` and `unmap`.
+ghost use Rattle.std.specs.Prelude.{◌≡◌, ◌++◌, IfOk, OnOk};
 ghost use Rattle.plain_model.specs.declared.commands.Command.TheVariants as command;
+ghost use Rattle.image_laws.specs.Catalogs.{table_deletes, unmap_edits};
+ghost use Rattle.map_ops.specs.Changes.{tables_named};
+ghost use Rattle.map_ops.specs.Planning.{PlansOf, IsShortPlan, IsCalm};
 
-use cell_world::cells::{Cell, CellKey, KeyType, MapKind, Site};
+use crate::changes::put_cell;
+use crate::refusals::{map_refusal, unmap_refusal};
+use cell_world::cells::{Cell, CellKey, KeyType, MapKind};
 use cell_world::changes::Change;
-use cell_world::limits::MOST_MAPS;
+use cell_world::memory::Memory;
 use cell_world::names::Name;
 use cell_world::operations::Reach;
-use cell_world::outside::{World, WorldError};
-use global_tables::counts;
-use global_tables::faults::StepFault;
-use global_tables::groups::Group;
+use global_tables::known::KnownTables;
+use global_tables::rows::TableRow;
 use plain_model::plans::{Plan, PlanStop};
-use plain_model::replies::{Refusal, Reply};
+use plain_model::replies::Reply;
 use std::alloc::Global;
 
-/// Whether a map of this name stands.
-fn stands<W: World>(alloc: Global, world: &mut W, name: Name) -> Result<bool, WorldError>
-    ensures found { IfOk result (λ found. IfContents (W.outside world.old).told (λ image. found ≡ map.contains_key (global image).maps name)) }
-    ensures told { (W.outside world.new).told ≡ (W.outside world.old).told }
-    ensures later { IsLater (W.outside world.old) (W.outside world.new) }
-    ensures cause { IsErrOf result WorldError.Failed → Rose ((W.outside world.old).faults_at 0) ((W.outside world.new).faults_at 0) }
-{
-    match world.read(alloc, Site::GLOBAL, &CellKey::Map(name)) {
-        Ok(found) => Ok(found.is_some()),
-        Err(error) => Err(error),
-    }
-}
-
-/// Whether as many maps stand as may.
-fn is_full<W: World>(alloc: Global, world: &mut W) -> Result<bool, WorldError>
-    ensures found { IfOk result (λ full. IfContents (W.outside world.old).told (λ image. full ≡ nat_le MOST_MAPS (map.len (global image).maps))) }
-    ensures told { (W.outside world.new).told ≡ (W.outside world.old).told }
-    ensures later { IsLater (W.outside world.old) (W.outside world.new) }
-    ensures cause { IsErrOf result WorldError.Failed → Rose ((W.outside world.old).faults_at 0) ((W.outside world.new).faults_at 0) }
-{
-    match counts::is_full(alloc, world, &Group::Maps, MOST_MAPS as u32) {
-        Ok(full) => Ok(full),
-        Err(StepFault::Store) => Err(WorldError::Failed),
-        Err(StepFault::Memory) => Err(WorldError::Memory),
-    }
-}
-
-/// The plan of `map NAME KIND TYPE`: the cell of a new map is put, where no map has the name and fewer stand than may.
-pub fn plan_map<W: World>(
+/// `map NAME KIND TYPE`: the cell of a new map is put, where no map has the name and fewer stand than may.
+pub fn plan_map(
     alloc: Global,
-    world: &mut W,
+    known: &KnownTables,
     name: Name,
     kind: MapKind,
     key_type: KeyType,
 ) -> Result<Plan, PlanStop>
-    ensures plans { IfContents (W.outside world.old).told (λ image. Sound image → Plans (command.Map name kind key_type) result image) }
-    ensures short { IsPlanOfOneWord result }
-    ensures told { (W.outside world.new).told ≡ (W.outside world.old).told }
-    ensures later { IsLater (W.outside world.old) (W.outside world.new) }
-    ensures cause { IsErrOf result PlanStop.Store → Rose ((W.outside world.old).faults_at 0) ((W.outside world.new).faults_at 0) }
+    ensures plans { PlansOf known.now (command.Map name kind key_type) result }
+    ensures short { IsShortPlan result }
+    ensures calm { IsCalm result }
 {
-    if stands(alloc, world, name)? {
-        return Err(PlanStop::Refused(Refusal::MapExists));
+    match map_refusal(known, &name) {
+        Some(refusal) => Err(PlanStop::Refused(refusal)),
+        None => put_cell(alloc, Cell::Map(name, kind, key_type)),
     }
-    if is_full(alloc, world)? {
-        return Err(PlanStop::Refused(Refusal::Full));
+}
+
+/// Deletes the tables of a map.
+fn delete_tables(change: &mut Change, name: &Name, tables: &[TableRow]) -> Result<(), Memory>
+    ensures { OnOk result (change.new ≡ change.old ++ table_deletes name.now (tables_named name.now tables.now)) }
+{
+    for row in tables {
+        if name.cmp(&row.map).is_eq() {
+            change.delete(CellKey::Table(*name, row.table))?;
+        }
     }
+    Ok(())
+}
+
+/// The deletes of a map and of its tables.
+fn unmap_change(alloc: Global, known: &KnownTables, name: Name) -> Result<Change, Memory>
+    ensures { IfOk result (λ change. change ≡ unmap_edits name (tables_named name known.now.tables)) }
+{
     let mut change = Change::empty(alloc);
-    change.put(Cell::Map(name, kind, key_type))?;
-    Ok(Plan::Short(Reach::Nothing, change, Reply::Ok))
+    change.delete(CellKey::Map(name))?;
+    delete_tables(&mut change, &name, known.tables())?;
+    Ok(change)
+}
+
+/// `unmap NAME`: the cells of the map and of its tables are deleted, where it stands and has no shard.
+pub fn plan_unmap(alloc: Global, known: &KnownTables, name: Name) -> Result<Plan, PlanStop>
+    ensures plans { PlansOf known.now (command.Unmap name) result }
+    ensures short { IsShortPlan result }
+    ensures calm { IsCalm result }
+{
+    match unmap_refusal(known, &name) {
+        Some(refusal) => Err(PlanStop::Refused(refusal)),
+        None => {
+            let change = unmap_change(alloc, known, name)?;
+            Ok(Plan::Short(Reach::Nothing, change, Reply::Ok))
+        }
+    }
 }

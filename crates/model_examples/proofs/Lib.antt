@@ -17,3 +17,4 @@ pub mod Served
 pub mod SuspectRun
 pub mod Texts
 pub mod UnknownLocations
+pub mod RefusedStates

@@ -1,5 +1,5 @@
 -- Small values for the examples: two sites, the map m of small numbers, and a job that moves a range of it.
-use Rattle.std.specs.Prelude.{ℕ, ◌+◌, Bool, true, List, [], ◌∷◌, Some, None, codes, map}
+use Rattle.std.specs.Prelude.{ℕ, ◌+◌, Bool, true, List, [], ◌∷◌, Some, Option, None, codes, map}
 use Rattle.std.specs.FinMap as fin
 use Rattle.std.specs.FinSet as set
 use Rattle.cell_world.specs.Texts.{Text}
@@ -7,11 +7,12 @@ use Rattle.cell_world.specs.Stores.{Store, empty_store, put, local_key}
 use Rattle.cell_world.specs.Images.{Image, Trail, Global, Shard, Happening, Committed, Wrote, empty_image, with_store}
 use Rattle.cell_world.specs.Plain.{PlainState, Held, Connections, holds_nothing, nobody}
 use Rattle.cell_world.specs.declared.cells.Away.{Away}
-use Rattle.cell_world.specs.declared.cells.Away.TheVariants.{Detached}
+use Rattle.cell_world.specs.declared.cells.Away.TheVariants.{Detached, Suspect}
 use Rattle.cell_world.specs.declared.cells.Cell.TheVariants as cell
 use Rattle.cell_world.specs.declared.cells.CellKey.TheVariants as at
 use Rattle.cell_world.specs.declared.cells.LocalRow.{LocalRow}
 use Rattle.cell_world.specs.declared.cells.RowName.{RowName}
+use Rattle.cell_world.specs.declared.cells.Token.{Token}
 use Rattle.cell_world.specs.declared.cells.KeyType.TheVariants.{Int}
 use Rattle.cell_world.specs.declared.cells.MapKind.TheVariants as kind
 use Rattle.cell_world.specs.declared.cells.Status.TheVariants.{Online, Offline}
@@ -25,18 +26,21 @@ use Rattle.cell_world.specs.declared.changes.Edit.{Edit}
 use Rattle.cell_world.specs.declared.changes.Edit.TheVariants.{Put, Delete}
 use Rattle.plain_model.specs.declared.commands.Command.{Command}
 use Rattle.plain_model.specs.declared.commands.Command.TheVariants as command
+use Rattle.plain_model.specs.declared.commands.HighText.{HighText}
 use Rattle.plain_model.specs.declared.commands.HighText.TheVariants as word
 use Rattle.plain_model.specs.declared.replies.Reply.{Reply}
 use Rattle.plain_model.specs.declared.replies.Reply.TheVariants as reply
+use Rattle.plain_model.specs.declared.replies.Refusal.{Refusal}
 use Rattle.plain_model.specs.declared.replies.Refusal.TheVariants as refused
 use Rattle.plain_model.specs.declared.history.Entry.{Entry}
 use Rattle.plain_model.specs.Timelines.{Made, Past}
 use Rattle.plain_model.specs.JobSteps.{with_extra}
 use Rattle.plain_model.specs.Caches.{Learnt}
 use Rattle.plain_model.specs.Legal.{AllGoing}
+use Rattle.plain_model.specs.Refusing.{refusal}
 use Rattle.plain_model.specs.Steps.{exchanging, with_held, with_connection}
-use Rattle.plain_model.specs.Worked.{small_key, small_range, mapping_over}
-use Rattle.world_examples.specs.Examples.{map_m, map_n, site_a, site_b, maps_m, mappings_of, jobs_of, away_of, locals_of, job_at, job_piece, no_pieces, one_piece, two_pieces}
+use Rattle.plain_model.specs.Worked.{small_key, small_range, mapping_over, local_row_over}
+use Rattle.world_examples.specs.Examples.{map_m, map_n, site_a, site_b, maps_m, mappings_of, jobs_of, away_of, locals_of, job_at, job_piece, free_piece, row_of, rows_of, state_with, no_pieces, one_piece, two_pieces}
 
 -- ---- commands and entries
 
@@ -305,3 +309,25 @@ opened = answered 1 open_5 (reply.At site_a)
 -- it was the first entry
 abbrev pub opened_past : Past
 opened_past = made opened owned_state ∷ []
+
+-- ---- states in which a refusal is tried
+
+-- the map m with its shards `s/a` and `s/b`, these mappings and these jobs
+abbrev pub holding_jobs : List Piece → List JobRow → PlainState
+holding_jobs pieces jobs = record (state_with pieces []) { jobs = jobs_of jobs }
+
+-- the site `s/a` is suspect and holds a local row over [0, 10), online; these mappings stand
+abbrev pub suspect_state : List Piece → PlainState
+suspect_state pieces = holding (record (state_with pieces []) { away = away_of ((site_a, Suspect) ∷ []) }) (local_rows (local_row_over (small_range 0 10) Online ∷ []))
+
+-- one row, of the map n under the key 5, beside these mappings of m
+abbrev pub row_elsewhere : List Piece → PlainState
+row_elsewhere pieces = record (state_with pieces []) { rows = rows_of ((record (row_of 5 1) { map = map_n }, []) ∷ []) }
+
+-- what refuses `merge m 5` with this token where these mappings stand
+abbrev pub merge_5 : Option Token → List Piece → Option Refusal
+merge_5 token pieces = refusal (state_with pieces []) 1 (command.Merge map_m (codes "5") token)
+
+-- what refuses `job m LOW HIGH s/b 1` where [0, 10) and [10, 20) are online at `s/a`
+abbrev pub job_on : Text → HighText → Option Refusal
+job_on low high = refusal (state_with (free_piece 0 10 site_a Online ∷ free_piece 10 20 site_a Online ∷ []) []) 1 (command.Job map_m low high site_b 1)

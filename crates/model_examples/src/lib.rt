@@ -7,4 +7,5 @@ pub mod headline;
 pub mod legal;
 pub mod near;
 pub mod on_trail;
+pub mod refusals;
 pub mod written;

@@ -1,6 +1,1 @@
-pub mod TableLaws
-pub mod SetLaws
-pub mod TableRules
-pub mod ExchangeLaws
-pub mod LinkLaws
 pub mod RowLaws

@@ -1,4 +1,1 @@
-pub mod Tables
-pub mod State
 pub mod Asking
-pub mod Exchanging

@@ -1,14 +1,10 @@
 //! Checks: a test, and the refusal where it holds. In the order of the definitions.
-#![tactic(auto, using(crate::proofs::TableRules::look_ups))]
-
 ghost use Rattle.std.specs.Prelude.{◌≡◌};
 ghost use Rattle.plain_model.specs.Refusing.{first_refusal, no_map, map_exists, map_in_use, no_location, not_a_shard, shard_exists, shard_in_use, wrong_kind, bad_key, bad_range, overlap, no_mapping, not_offline, same_status_already, not_locked, locked, has_token, bad_split, not_mergeable, rows_present, owner_offline, ended, no_table, table_exists, detached, unresolved, no_row, same_shard, number_in_use, no_connection, full_of_maps, full_of_tables, overlaps_in};
 ghost use Rattle.plain_model.specs.Refusing.{if_there, is_detached, is_suspect, same_kind, same_status};
 ghost use Rattle.cell_world.specs.Keys.{before};
-ghost use Rattle.plain_map.specs.State.{state_of, link_shown};
+ghost use Rattle.plain_tables.specs.State.{state_of, link_shown};
 
-use crate::named::{row_of, same_status, same_token};
-use crate::state::{Link, PlainMap};
 use cell_world::cells::{Away, MapKind, Status, Token};
 use cell_world::limits::{MOST_MAPS, MOST_TABLES};
 use cell_world::locations::Location;
@@ -17,6 +13,8 @@ use cell_world::norm_keys::NormKey;
 use cell_world::operations::Piece;
 use cell_world::spans::{High, Span};
 use plain_model::replies::Refusal;
+use plain_tables::named::{row_of, same_status, same_token};
+use plain_tables::state::{Link, PlainTables};
 
 /// A test, and the refusal where it holds.
 pub type Check = (bool, Refusal);
@@ -206,163 +204,161 @@ pub fn no_connection(link: &Option<Link>) -> Check
     (link.is_none(), Refusal::NoConnection)
 }
 
-impl PlainMap {
-    /// No map has this name.
-    pub fn no_map(&self, name: &Name) -> Check
-        ensures { result ≡ no_map (state_of self.now) name.now }
-    {
-        (self.map_at(name).is_none(), Refusal::NoMap)
-    }
+/// No map has this name.
+pub fn no_map(plain: &PlainTables, name: &Name) -> Check
+    ensures { result ≡ no_map (state_of plain.now) name.now }
+{
+    (plain.map_at(name).is_none(), Refusal::NoMap)
+}
 
-    /// A map has this name.
-    pub fn map_exists(&self, name: &Name) -> Check
-        ensures { result ≡ map_exists (state_of self.now) name.now }
-    {
-        (self.map_at(name).is_some(), Refusal::MapExists)
-    }
+/// A map has this name.
+pub fn map_exists(plain: &PlainTables, name: &Name) -> Check
+    ensures { result ≡ map_exists (state_of plain.now) name.now }
+{
+    (plain.map_at(name).is_some(), Refusal::MapExists)
+}
 
-    /// The map has a shard.
-    pub fn map_in_use(&self, name: &Name) -> Check
-        ensures { result ≡ map_in_use (state_of self.now) name.now }
-    {
-        (self.has_shards(name), Refusal::MapInUse)
-    }
+/// The map has a shard.
+pub fn map_in_use(plain: &PlainTables, name: &Name) -> Check
+    ensures { result ≡ map_in_use (state_of plain.now) name.now }
+{
+    (plain.has_shards(name), Refusal::MapInUse)
+}
 
-    /// The location isn't known.
-    pub fn no_location(&self, location: &Location) -> Check
-        ensures { result ≡ no_location (state_of self.now) location.now }
-    {
-        (!self.is_location(location), Refusal::NoLocation)
-    }
+/// The location isn't known.
+pub fn no_location(plain: &PlainTables, location: &Location) -> Check
+    ensures { result ≡ no_location (state_of plain.now) location.now }
+{
+    (!plain.is_location(location), Refusal::NoLocation)
+}
 
-    /// The location is no shard of the map.
-    pub fn not_a_shard(&self, name: &Name, location: &Location) -> Check
-        ensures { result ≡ not_a_shard (state_of self.now) name.now location.now }
-    {
-        (!self.is_shard(name, location), Refusal::NotAShard)
-    }
+/// The location is no shard of the map.
+pub fn not_a_shard(plain: &PlainTables, name: &Name, location: &Location) -> Check
+    ensures { result ≡ not_a_shard (state_of plain.now) name.now location.now }
+{
+    (!plain.is_shard(name, location), Refusal::NotAShard)
+}
 
-    /// The location is a shard of the map.
-    pub fn shard_exists(&self, name: &Name, location: &Location) -> Check
-        ensures { result ≡ shard_exists (state_of self.now) name.now location.now }
-    {
-        (self.is_shard(name, location), Refusal::ShardExists)
-    }
+/// The location is a shard of the map.
+pub fn shard_exists(plain: &PlainTables, name: &Name, location: &Location) -> Check
+    ensures { result ≡ shard_exists (state_of plain.now) name.now location.now }
+{
+    (plain.is_shard(name, location), Refusal::ShardExists)
+}
 
-    /// A mapping of the map is on it, or a standing job of the map has it as target.
-    pub fn shard_in_use(&self, name: &Name, location: &Location) -> Check
-        ensures { result ≡ shard_in_use (state_of self.now) name.now location.now }
-    {
-        let holds = self.has_mapping_at(name, location) || self.is_target(name, location);
-        (holds, Refusal::ShardInUse)
-    }
+/// A mapping of the map is on it, or a standing job of the map has it as target.
+pub fn shard_in_use(plain: &PlainTables, name: &Name, location: &Location) -> Check
+    ensures { result ≡ shard_in_use (state_of plain.now) name.now location.now }
+{
+    let holds = plain.has_mapping_at(name, location) || plain.is_target(name, location);
+    (holds, Refusal::ShardInUse)
+}
 
-    /// The command isn't for this kind of map.
-    pub fn wrong_kind(&self, name: &Name, wanted: MapKind) -> Check
-        ensures { result ≡ wrong_kind (state_of self.now) name.now wanted }
-    {
-        let holds = match self.kind_of_map(name) {
-            Some(kind) => !same_kind(wanted, kind),
-            None => false,
-        };
-        (holds, Refusal::WrongKind)
-    }
+/// The command isn't for this kind of map.
+pub fn wrong_kind(plain: &PlainTables, name: &Name, wanted: MapKind) -> Check
+    ensures { result ≡ wrong_kind (state_of plain.now) name.now wanted }
+{
+    let holds = match plain.kind_of_map(name) {
+        Some(kind) => !same_kind(wanted, kind),
+        None => false,
+    };
+    (holds, Refusal::WrongKind)
+}
 
-    /// A mapping of the map shares a key with the new span.
-    pub fn overlap(&self, name: &Name, span: &Option<Span>) -> Check
-        ensures { result ≡ overlap (state_of self.now) name.now span.now }
-    {
-        let holds = match span {
-            Some(span) => self.is_overlapped(name, span),
-            None => false,
-        };
-        (holds, Refusal::Overlap)
-    }
+/// A mapping of the map shares a key with the new span.
+pub fn overlap(plain: &PlainTables, name: &Name, span: &Option<Span>) -> Check
+    ensures { result ≡ overlap (state_of plain.now) name.now span.now }
+{
+    let holds = match span {
+        Some(span) => plain.is_overlapped(name, span),
+        None => false,
+    };
+    (holds, Refusal::Overlap)
+}
 
-    /// No mapping begins at the high end, or it has another location, status or token.
-    pub fn not_mergeable(&self, piece: &Option<Piece>) -> Check
-        ensures { result ≡ not_mergeable (state_of self.now) piece.now }
-    {
-        let holds = match piece {
-            Some(piece) => self.next_mapping(piece).is_none(),
-            None => false,
-        };
-        (holds, Refusal::NotMergeable)
-    }
+/// No mapping begins at the high end, or it has another location, status or token.
+pub fn not_mergeable(plain: &PlainTables, piece: &Option<Piece>) -> Check
+    ensures { result ≡ not_mergeable (state_of plain.now) piece.now }
+{
+    let holds = match piece {
+        Some(piece) => plain.next_mapping(piece).is_none(),
+        None => false,
+    };
+    (holds, Refusal::NotMergeable)
+}
 
-    /// A row stands under a key of the mapping.
-    pub fn rows_present(&self, piece: &Option<Piece>) -> Check
-        ensures { result ≡ rows_present (state_of self.now) piece.now }
-    {
-        let holds = match piece {
-            Some(piece) => self.has_rows(piece),
-            None => false,
-        };
-        (holds, Refusal::RowsPresent)
-    }
+/// A row stands under a key of the mapping.
+pub fn rows_present(plain: &PlainTables, piece: &Option<Piece>) -> Check
+    ensures { result ≡ rows_present (state_of plain.now) piece.now }
+{
+    let holds = match piece {
+        Some(piece) => plain.has_rows(piece),
+        None => false,
+    };
+    (holds, Refusal::RowsPresent)
+}
 
-    /// The connection's map has no such table.
-    pub fn no_table(&self, link: &Option<Link>, table: &Name) -> Check
-        ensures { result ≡ no_table (state_of self.now) (link_shown link.now) table.now }
-    {
-        let holds = match link {
-            Some(link) => !self.has_table(&link.map, table),
-            None => false,
-        };
-        (holds, Refusal::NoTable)
-    }
+/// The connection's map has no such table.
+pub fn no_table(plain: &PlainTables, link: &Option<Link>, table: &Name) -> Check
+    ensures { result ≡ no_table (state_of plain.now) (link_shown link.now) table.now }
+{
+    let holds = match link {
+        Some(link) => !plain.has_table(&link.map, table),
+        None => false,
+    };
+    (holds, Refusal::NoTable)
+}
 
-    /// The map has this table.
-    pub fn table_exists(&self, name: &Name, table: &Name) -> Check
-        ensures { result ≡ table_exists (state_of self.now) name.now table.now }
-    {
-        (self.has_table(name, table), Refusal::TableExists)
-    }
+/// The map has this table.
+pub fn table_exists(plain: &PlainTables, name: &Name, table: &Name) -> Check
+    ensures { result ≡ table_exists (state_of plain.now) name.now table.now }
+{
+    (plain.has_table(name, table), Refusal::TableExists)
+}
 
-    /// The site is Detached.
-    pub fn detached(&self, location: &Option<Location>) -> Check
-        ensures { result ≡ detached (state_of self.now) location.now }
-    {
-        let holds = match location {
-            Some(location) => is_detached(self.away_at(location)),
-            None => false,
-        };
-        (holds, Refusal::Detached)
-    }
+/// The site is Detached.
+pub fn detached(plain: &PlainTables, location: &Option<Location>) -> Check
+    ensures { result ≡ detached (state_of plain.now) location.now }
+{
+    let holds = match location {
+        Some(location) => is_detached(plain.away_at(location)),
+        None => false,
+    };
+    (holds, Refusal::Detached)
+}
 
-    /// The site is Suspect.
-    pub fn unresolved(&self, location: &Option<Location>) -> Check
-        ensures { result ≡ unresolved (state_of self.now) location.now }
-    {
-        let holds = match location {
-            Some(location) => is_suspect(self.away_at(location)),
-            None => false,
-        };
-        (holds, Refusal::Unresolved)
-    }
+/// The site is Suspect.
+pub fn unresolved(plain: &PlainTables, location: &Option<Location>) -> Check
+    ensures { result ≡ unresolved (state_of plain.now) location.now }
+{
+    let holds = match location {
+        Some(location) => is_suspect(plain.away_at(location)),
+        None => false,
+    };
+    (holds, Refusal::Unresolved)
+}
 
-    /// The row isn't there.
-    pub fn no_row(&self, link: &Option<Link>, table: &Name, number: u64) -> Check
-        ensures { result ≡ no_row (state_of self.now) (link_shown link.now) table.now number }
-    {
-        let holds = match link {
-            Some(link) => self.row_at(&row_of(link, table, number)).is_none(),
-            None => false,
-        };
-        (holds, Refusal::Absent)
-    }
+/// The row isn't there.
+pub fn no_row(plain: &PlainTables, link: &Option<Link>, table: &Name, number: u64) -> Check
+    ensures { result ≡ no_row (state_of plain.now) (link_shown link.now) table.now number }
+{
+    let holds = match link {
+        Some(link) => plain.row_at(&row_of(link, table, number)).is_none(),
+        None => false,
+    };
+    (holds, Refusal::Absent)
+}
 
-    /// As many maps stand as may.
-    pub fn full_of_maps(&self) -> Check
-        ensures { result ≡ full_of_maps (state_of self.now) }
-    {
-        (self.maps.len() >= MOST_MAPS, Refusal::Full)
-    }
+/// As many maps stand as may.
+pub fn full_of_maps(plain: &PlainTables) -> Check
+    ensures { result ≡ full_of_maps (state_of plain.now) }
+{
+    (plain.map_count() >= MOST_MAPS, Refusal::Full)
+}
 
-    /// The map has as many tables as it may.
-    pub fn full_of_tables(&self, name: &Name) -> Check
-        ensures { result ≡ full_of_tables (state_of self.now) name.now }
-    {
-        (self.table_count(name) >= MOST_TABLES, Refusal::Full)
-    }
+/// The map has as many tables as it may.
+pub fn full_of_tables(plain: &PlainTables, name: &Name) -> Check
+    ensures { result ≡ full_of_tables (state_of plain.now) name.now }
+{
+    (plain.table_count(name) >= MOST_TABLES, Refusal::Full)
 }

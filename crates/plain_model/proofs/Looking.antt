@@ -5,7 +5,7 @@ use Rattle.cell_world.specs.declared.operations.Op.{Op}
 use Rattle.plain_model.specs.declared.replies.Reply.TheVariants as reply
 use Rattle.plain_model.specs.declared.history.Entry.{Entry}
 use Rattle.plain_model.specs.Timelines.{Timeline, Happened, Entered, history_of}
-use Rattle.plain_model.specs.OnTrail.{logs_put}
+use Rattle.plain_model.specs.OnTrail.{logs_put, tried_by}
 use Rattle.plain_model.specs.Legal.{AllGoing, Promises, AllNamedNext, AreNamed}
 use Rattle.plain_model.specs.GoingOn.{GoesOn, NamesOperations}
 use Rattle.plain_model.specs.RunSoFar.{Looks, nothing_going}
@@ -13,11 +13,6 @@ use Rattle.plain_model.proofs.PromiseLaws.{promises_more, named_more}
 
 pub looks_first : (going : AllGoing) → Looks going []
 looks_first going = record { promises = tt; pendings = tt; named = tt }
-
--- the log cells that a happening was to put
-abbrev pub tried_by : Happening → List Op
-tried_by (Committed place change took) = logs_put change
-tried_by h = []
 
 -- something happens that tries no log cell
 quiet_named : (going : AllGoing) (past : Timeline) (h : Happening) → tried_by h ≡ [] → AreNamed going past [] → AreNamed going (Happened h ∷ past) []

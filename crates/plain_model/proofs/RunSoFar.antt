@@ -12,6 +12,7 @@ use Rattle.plain_model.specs.declared.history.Entry.{Entry}
 use Rattle.plain_model.specs.declared.replies.Reply.{Reply}
 use Rattle.plain_model.specs.declared.replies.Reply.TheVariants as reply
 use Rattle.plain_model.specs.Timelines.{Timeline, Happened, Entered, image_of, facts_of, happened_of}
+use Rattle.plain_model.specs.OnTrail.{tried_by}
 use Rattle.plain_model.specs.Legal.{Promises, MayHappen, MayEnter}
 use Rattle.plain_model.specs.GoingOn.{GoesOn}
 use Rattle.plain_model.specs.Written.{Mode}
@@ -20,7 +21,7 @@ use Rattle.plain_model.specs.Headline.{GoesOnFrom}
 use Rattle.plain_model.specs.RunSoFar.{Course, IsSince, RunsOn, KeepsRun, RunsTo, KeepsContents, resting, nothing_going}
 use Rattle.plain_model.proofs.OneTimeline.{moment_now, image_now, stretch_grows}
 use Rattle.plain_model.proofs.RunLaws.{begins, owing-entered, owing-committed, owing-wrote_all, owing-wrote_front, sound_now}
-use Rattle.plain_model.proofs.Looking.{tried_by, looks_first, looks_happened, looks_entered}
+use Rattle.plain_model.proofs.Looking.{looks_first, looks_happened, looks_entered}
 use Rattle.plain_model.proofs.AloneLaws.{alone_begins}
 
 -- ---- trails

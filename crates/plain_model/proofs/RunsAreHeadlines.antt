@@ -15,7 +15,7 @@ use Rattle.plain_model.specs.Written.{EachReply, AllWritten}
 use Rattle.plain_model.specs.Running.{Owing}
 use Rattle.plain_model.specs.ByMoments.{RunsByMoments}
 use Rattle.plain_model.specs.Headline.{Manner, Causes, EndsAnswered, has_stopped, SoundAtEachMoment, IsLegalHistory, OnlyWhatHappened, EachOnceInOrder, StatusHasCause, Headline, HeadlineAlone, FollowsTo}
-use Rattle.plain_model.specs.RunSoFar.{Course, RunsOn, KeepsRun, KeepsContents, EndsWritten, AreLeftGoing, HoldsOnTrail, HoldsByStates, resting}
+use Rattle.plain_model.specs.RunSoFar.{Course, RunsOn, HasGoneOn, KeepsRun, HasGoneTo, KeepsContents, EndsWritten, AreLeftGoing, HoldsOnTrail, HoldsByStates, resting}
 use Rattle.plain_model.proofs.RunsAtMoments.{runs_by_moments, all_lines_written}
 use Rattle.plain_model.proofs.AloneLaws.{alone_follows}
 use Rattle.plain_model.proofs.RunSoFar.{run_begins, run_begins_to}
@@ -56,13 +56,19 @@ module _ (tagged stopped : Bool) (script : List Asked) (ending : RunStatus) (t0 
   three : AreLeftGoing stopped script course.history course.going → EndsWritten rest ending course.history → Parts tagged stopped script trail t0 ending course.history
   three = subst (λ h. AreLeftGoing stopped script h course.going → EndsWritten rest ending h → Parts tagged stopped script trail t0 ending h) run.entries parts
 
+-- a run that began at the end of a trail, and has gone on to this
+pub ends_on_trail : (tagged stopped : Bool) (script : List Asked) (new : Told) (course : Course) (rest : Text) (ending : RunStatus) (before : Trail)
+    → HasGoneOn (EachReply tagged) (end_of_trail before) (image_at before (end_of_trail before)) before new course rest → AreLeftGoing stopped script course.history course.going → EndsWritten rest ending course.history
+    → HoldsOnTrail (EachReply tagged) stopped script before new course.history ending
+ends_on_trail tagged stopped script new course rest ending before gone left ends =
+    let all = three tagged stopped script ending (end_of_trail before) (image_at before (end_of_trail before)) gone.trail course rest gone.runs left ends in
+    record { trail = gone.trail; told = gone.told; goes_on = gone.goes_on; sound = all.sound; legal = all.legal; written = all.written }
+
 pub holds_on_trail : (tagged stopped : Bool) (script : List Asked) (old new : Told) (course : Course) (rest : Text) (ending : RunStatus)
     → KeepsRun (EachReply tagged) old (resting []) new course rest → AreLeftGoing stopped script course.history course.going → EndsWritten rest ending course.history
     → (before : Trail) → old ≡ TellsTrail before → Sound (image_at before (end_of_trail before)) → HoldsOnTrail (EachReply tagged) stopped script before new course.history ending
 holds_on_trail tagged stopped script old new course rest ending keeps left ends before told sound =
-    let gone = keeps (end_of_trail before) (image_at before (end_of_trail before)) before told (run_begins (EachReply tagged) before sound) in
-    let all = three tagged stopped script ending (end_of_trail before) (image_at before (end_of_trail before)) gone.trail course rest gone.runs left ends in
-    record { trail = gone.trail; told = gone.told; goes_on = gone.goes_on; sound = all.sound; legal = all.legal; written = all.written }
+    ends_on_trail tagged stopped script new course rest ending before (keeps (end_of_trail before) (image_at before (end_of_trail before)) before told (run_begins (EachReply tagged) before sound)) left ends
 
 pub is_headline : (manner : Manner) (tagged : Bool) (causes : Causes) (script : List Asked) (before : Trail) (old new : Outside) (history : List Entry) (ending : RunStatus)
     → HoldsOnTrail (EachReply tagged) (manner.stops ending) script before new.told history ending
@@ -72,23 +78,26 @@ is_headline manner tagged causes script before old new history ending holds serv
 
 -- ---- over a world that tells its contents alone
 
+-- a run that began with these contents, and has gone on to others
+pub ends_by_states : (stopped : Bool) (script : List Asked) (first : Image) (new : Told) (course : Course) → HasGoneTo first new course → AreLeftGoing stopped script course.history course.going
+    → HoldsByStates stopped script first new course.history
+ends_by_states stopped script first new course gone left = record {
+  last = gone.image;
+  told = gone.told;
+  sound = gone.runs.run.sound;
+  legal = record {
+    end = with_connections (meaning gone.image) gone.runs.connections;
+    follows = subst (λ es. FollowsTo [] (meaning first) es (with_connections (meaning gone.image) gone.runs.connections)) gone.runs.entries (alone_follows first gone.runs.past gone.runs.connections gone.image gone.runs.run);
+    stands = refl;
+    going = course.going;
+    left = left;
+    promises = subst (KeepsPromises course.going) gone.runs.entries gone.runs.promises;
+  };
+}
+
 pub holds_by_states : (stopped : Bool) (script : List Asked) (old new : Told) (course : Course) → KeepsContents old (resting []) new course → AreLeftGoing stopped script course.history course.going
     → (first : Image) → old ≡ TellsContents first → Sound first → HoldsByStates stopped script first new course.history
-holds_by_states stopped script old new course keeps left first told sound =
-    let gone = keeps first first told (run_begins_to first sound) in
-    record {
-      last = gone.image;
-      told = gone.told;
-      sound = gone.runs.run.sound;
-      legal = record {
-        end = with_connections (meaning gone.image) gone.runs.connections;
-        follows = subst (λ es. FollowsTo [] (meaning first) es (with_connections (meaning gone.image) gone.runs.connections)) gone.runs.entries (alone_follows first gone.runs.past gone.runs.connections gone.image gone.runs.run);
-        stands = refl;
-        going = course.going;
-        left = left;
-        promises = subst (KeepsPromises course.going) gone.runs.entries gone.runs.promises;
-      };
-    }
+holds_by_states stopped script old new course keeps left first told sound = ends_by_states stopped script first new course (keeps first first told (run_begins_to first sound)) left
 
 pub is_headline_alone : (manner : Manner) (causes : Causes) (script : List Asked) (first : Image) (old new : Outside) (history : List Entry) (ending : RunStatus)
     → HoldsByStates (manner.stops ending) script first new.told history

@@ -1,6 +1,5 @@
 -- The entry of a short command follows by what its plan says.
 use Rattle.std.proofs.Common.{◌≡◌, inl, inr, ℕ, Bool, true, false, cond, refl, sym, ap, ◌∙◌, subst, Some, None, Option, List, [], ◌∷◌}
-use Rattle.std.specs.Prelude.{option_and_then}
 use Rattle.std.specs.List.{AllByRecursion}
 use Rattle.cell_world.specs.Images.{Image}
 use Rattle.cell_world.specs.Plain.{PlainState, holds_nothing}

@@ -1,11 +1,11 @@
 pub mod ByMoments
 pub mod Caches
 pub mod Differing
-pub mod Entries
 pub mod Follows
 pub mod GoingOn
 pub mod Headline
 pub mod JobSteps
+pub mod Journals
 pub mod Legal
 pub mod Lines
 pub mod Near

@@ -172,7 +172,6 @@ reason_text reason.UnknownCommand = codes "unknown-command"
 reason_text reason.SessionLine = codes "session-line"
 reason_text reason.BadCount = codes "bad-count"
 reason_text (reason.BadWord n) = numbered (codes "bad-word") n
-reason_text reason.NotBuilt = codes "not-built"
 
 -- What is said of a run that didn't come to the end of its script, or met a store fault; of the others nothing.
 unfoldable pub status_text : RunStatus → Option Text

@@ -8,7 +8,7 @@ use Rattle.cell_world.specs.Lists.{SomeOf}
 use Rattle.cell_world.specs.Keys.{same}
 use Rattle.cell_world.specs.Spelled.{listed}
 use Rattle.cell_world.specs.Stores.{Store, empty_store}
-use Rattle.cell_world.specs.Images.{Image, Shard, Committed, Reopened, global}
+use Rattle.cell_world.specs.Images.{Image, Shard, Happening, Committed, Reopened, global}
 use Rattle.cell_world.specs.Plain.{PlainState, Held, holds_nothing}
 use Rattle.cell_world.specs.Meaning.{next_operation}
 use Rattle.cell_world.specs.Operations.{hull_of, conflicts}
@@ -46,6 +46,11 @@ abbrev pub logs_put : List Edit → List Op
 logs_put [] = []
 logs_put (Put (cell.Log op) ∷ edits) = op ∷ logs_put edits
 logs_put (edit ∷ edits) = logs_put edits
+
+-- the log cells that a happening was to put
+abbrev pub tried_by : Happening → List Op
+tried_by (Committed place change took) = logs_put change
+tried_by h = []
 
 -- the change puts the log cell of this number
 abbrev pub logs : ℕ → List Edit → Bool

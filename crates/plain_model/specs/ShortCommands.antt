@@ -1,5 +1,5 @@
 -- Short commands: of the commands that are one transaction of the global store, or none, those of maps and mappings. (`job` and the finish of a job are short too, and stand with the jobs.)
-use Rattle.std.specs.Prelude.{◌≡◌, ℕ, Bool, true, false, List, [], Option, Some, None}
+use Rattle.std.specs.Prelude.{◌≡◌, ℕ, Bool, true, false, List, Some, None}
 use Rattle.cell_world.specs.Images.{Image, Global, Happening, Committed, after_one, global}
 use Rattle.cell_world.specs.Plain.{PlainState, Connections, holds_nothing, with_connections}
 use Rattle.cell_world.specs.Meaning.{meaning, next_operation}
@@ -13,10 +13,10 @@ use Rattle.plain_model.specs.declared.replies.Reply.TheVariants as reply
 use Rattle.plain_model.specs.declared.replies.Refusal.{Refusal}
 use Rattle.plain_model.specs.declared.replies.Refusal.TheVariants as refused
 use Rattle.plain_model.specs.Refusing.{refusal}
-use Rattle.plain_model.specs.Steps.{plain_step, accepted}
+use Rattle.plain_model.specs.Steps.{accepted}
 use Rattle.plain_model.specs.Timelines.{Timeline, Past}
 use Rattle.plain_model.specs.Follows.{Follows}
-use Rattle.plain_model.specs.OnTrail.{OnTrail, logs_put}
+use Rattle.plain_model.specs.OnTrail.{OnTrail}
 
 -- ---- which they are
 

@@ -17,8 +17,6 @@ pub enum Reason {
     BadCount,
     /// The word of this number, from 1 with the command, is the first that isn't in its grammar.
     BadWord(u32),
-    /// Its command isn't built yet.
-    NotBuilt,
 }
 
 /// How a run ended.

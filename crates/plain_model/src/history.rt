@@ -1,5 +1,5 @@
 //! What was asked and answered, in order.
-ghost use Rattle.std.specs.Prelude.{◌≡◌, ◌++◌, ◌∷◌, ◌<◌, [], length, OnOk, OnErr, List};
+ghost use Rattle.std.specs.Prelude.{◌≡◌, ◌+◌, ◌≤◌, ◌++◌, ◌∷◌, [], length, OnOk, OnErr};
 
 use crate::commands::Command;
 use crate::replies::Reply;
@@ -37,9 +37,6 @@ impl Model for History {
 }
 
 impl History {
-    ghost use Rattle.plain_model.specs.Entries.{opened, settled};
-    ghost use Rattle.plain_model.specs.declared.history.Entry.{Entry};
-
     /// Without entries. Takes no memory.
     pub fn new(alloc: Global) -> History
         ensures { result ≡ [] }
@@ -62,40 +59,71 @@ impl History {
     {
         self.entries.as_slice()
     }
+}
 
-    /// Adds an entry that has no reply and no operation yet. `Memory` leaves the history as it was.
-    pub fn open(&mut self, session: u32, command: Command, moment: u64) -> Result<(), Memory>
-        ensures ok { OnOk result (self.new ≡ self.old ++ opened session command moment ∷ []) }
-        ensures err { OnErr result (self.new ≡ self.old) }
+/// A history that grows, and the room that was made for entries to come. Contracts see the entries and the room.
+#[derive(Drop)]
+pub struct Journal {
+    kept: Vec<Entry>,
+}
+
+impl Model for Journal {
+    ghost use Rattle.std.specs.Prelude.{◌-◌};
+    ghost use Rattle.std.specs.Vec.{vec_len, vec_capacity};
+    ghost use Rattle.plain_model.specs.Journals.{Journaled};
+
+    ghost Value = { Journaled };
+
+    ghost view = { λ journal. record { entries = journal.kept.items; room = vec_capacity journal.kept - vec_len journal.kept } };
+}
+
+impl Journal {
+    /// Without entries and without room. Takes no memory.
+    pub fn new(alloc: Global) -> Journal
+        ensures { result.entries ≡ [] }
     {
-        self.entries.push(Entry {
-            session,
-            command,
-            reply: None,
-            moment,
-            operation: 0,
-        })?;
+        Journal {
+            kept: Vec::new(alloc),
+        }
+    }
+
+    /// The number of entries.
+    pub fn len(&self) -> usize
+        ensures { result ≡ length self.now.entries }
+    {
+        self.kept.len()
+    }
+
+    /// The entries, in order.
+    pub fn as_slice(&self) -> &[Entry]
+        ensures { result.now ≡ self.now.entries }
+    {
+        self.kept.as_slice()
+    }
+
+    /// Makes room for so many entries more. `Memory` leaves the room as it was.
+    pub fn make_room(&mut self, more: usize) -> Result<(), Memory>
+        ensures entries { self.new.entries ≡ self.old.entries }
+        ensures ok { OnOk result (more ≤ self.new.room) }
+        ensures err { OnErr result (self.new.room ≡ self.old.room) }
+    {
+        self.kept.reserve(more)?;
         Ok(())
     }
 
-    /// The command of the last entry.
-    pub fn last_command(&self) -> &Command
-        requires { 0 < length self.now }
-        ensures { (front : List Entry) (entry : Entry) → self.now ≡ front ++ entry ∷ [] → result.now ≡ entry.command }
+    /// Adds an entry at the end, where there is room. Takes no memory.
+    pub fn push(&mut self, entry: Entry)
+        requires { 1 ≤ self.old.room }
+        ensures entries { self.new.entries ≡ self.old.entries ++ entry ∷ [] }
+        ensures room { self.new.room + 1 ≡ self.old.room }
     {
-        let last = self.entries.len() - 1;
-        &self.entries[last].command
+        self.kept.push_reserved(entry);
     }
 
-    /// Gives the last entry its reply, its moment and its operation. Takes no memory.
-    pub fn settle(&mut self, reply: Option<Reply>, moment: u64, operation: u64)
-        requires { 0 < length self.old }
-        ensures { (front : List Entry) (entry : Entry) → self.old ≡ front ++ entry ∷ [] → self.new ≡ front ++ settled entry reply moment operation ∷ [] }
+    /// The history of these entries. Takes no memory.
+    pub fn into_history(self) -> History
+        ensures { result ≡ self.entries }
     {
-        let last = self.entries.len() - 1;
-        let entry = &mut self.entries[last];
-        entry.reply = reply;
-        entry.moment = moment;
-        entry.operation = operation;
+        History { entries: self.kept }
     }
 }

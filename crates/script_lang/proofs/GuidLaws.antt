@@ -1,6 +1,6 @@
 -- Which words are guids.
-use Rattle.std.proofs.Common.{◌≡◌, ◌≢◌, ℕ, zero, suc, Bool, true, false, ◌==◌, [], ◌∷◌, length, Option, Some, None, true≢false, refl, sym, ap, ◌∙◌, inl, inr, arith}
-use Rattle.std.specs.Prelude.{is_some, option_map, IsOk, IsSome, Result, Ok, Err, is_ok, ◌↔◌}
+use Rattle.std.proofs.Common.{◌≡◌, ◌≢◌, ℕ, zero, suc, Bool, true, false, [], ◌∷◌, length, Some, None, true≢false, refl, sym, ap, ◌∙◌, inl, inr, arith}
+use Rattle.std.specs.Prelude.{is_some, option_map, IsOk, IsSome, Result, is_ok, ◌↔◌}
 use Rattle.std.specs.Int.{from_be_bytes, w128}
 use Rattle.std.proofs.lemmas.Bool.{cases_Bool, ne_eqb}
 use Rattle.text_scan.specs.Walks.{accepts}

@@ -2,7 +2,12 @@ pub mod ArgumentLaws
 pub mod GuidLaws
 pub mod HexLaws
 pub mod LineLaws
+pub mod LocationLaws
 pub mod NumberLaws
+pub mod PlaceLaws
 pub mod ScriptLaws
 pub mod SourceLaws
+pub mod StoreLaws
+pub mod WorkloadLaws
 pub mod WritingLaws
+pub mod WholeScripts

@@ -1,16 +1,14 @@
 -- A script is read line by line.
-use Rattle.std.proofs.Common.{◌≡◌, ℕ, ◌+◌, ◌<◌, Bool, true, false, ◌&&◌, List, [], ◌∷◌, ◌++◌, length, map, Result, Ok, Err, refl, sym, ap, subst, ◌∙◌, arith, append_assoc, length-append}
-use Rattle.std.specs.Prelude.{IsTrue, is_ok}
+use Rattle.std.proofs.Common.{◌≡◌, ℕ, ◌+◌, true, List, [], ◌∷◌, ◌++◌, length, map, Ok, Err, refl, sym, ap, ◌∙◌, arith, append_assoc, length-append}
+use Rattle.std.specs.Prelude.{is_ok}
 use Rattle.std.specs.List.{list_all}
 use Rattle.std.specs.Str.Lines.{lines}
 use Rattle.std.proofs.lemmas.List.{map-append, append-nil}
 use Rattle.cell_world.specs.Texts.{Text}
 use Rattle.plain_model.specs.declared.commands.Asked.{Asked}
-use Rattle.plain_model.specs.declared.commands.Command.{Command}
 use Rattle.plain_model.specs.declared.finish.Reason.{Reason}
 use Rattle.script_lang.specs.declared.programs.Program.{Program}
 use Rattle.script_lang.specs.declared.script_lines.Said.{Said}
-use Rattle.script_lang.specs.declared.script_lines.Said.TheVariants as said
 use Rattle.script_lang.specs.declared.verbs.Verb.{Verb}
 use Rattle.script_lang.specs.declared.stops.LineStop.{LineStop}
 use Rattle.script_lang.specs.declared.stops.LineStop.TheVariants as stop

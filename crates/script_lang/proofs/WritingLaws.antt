@@ -1,5 +1,5 @@
 -- What was added is what was to be written.
-use Rattle.std.proofs.Common.{◌≡◌, ℕ, ◌<◌, suc, true, [], ◌∷◌, ◌++◌, length, get_or, map, List, Option, codes, Result, refl, sym, ap, subst, ◌∙◌, arith, append_assoc}
+use Rattle.std.proofs.Common.{◌≡◌, ℕ, ◌<◌, suc, [], ◌∷◌, ◌++◌, length, get_or, map, List, Option, codes, Result, refl, ap, subst, ◌∙◌, append_assoc}
 use Rattle.std.specs.Prelude.{OnOk, IsTrue}
 use Rattle.std.specs.List.{flat_map}
 use Rattle.std.proofs.lemmas.Bool.{lt-ltb}

@@ -1,5 +1,5 @@
 -- The grammar of commands: the first word of each, and the kinds of the words behind it, in order.
-use Rattle.std.specs.Prelude.{◌≡◌, ℕ, ◌+◌, ◌-◌, Bool, true, false, ◌&&◌, nat_le, List, [], ◌∷◌, length, Option, Some, None, Result, Ok, Err, if◌then◌else◌, codes}
+use Rattle.std.specs.Prelude.{◌≡◌, ℕ, ◌+◌, Bool, ◌&&◌, nat_le, List, [], ◌∷◌, length, Option, Some, None, Result, Ok, Err, if◌then◌else◌, codes}
 use Rattle.cell_world.specs.Texts.{Text}
 use Rattle.cell_world.specs.declared.cells.Token.{Token}
 use Rattle.plain_model.specs.declared.commands.Command.{Command}

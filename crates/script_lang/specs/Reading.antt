@@ -1,5 +1,5 @@
 -- What is known of a word that was read, and of one that was refused.
-use Rattle.std.specs.Prelude.{◌≡◌, ℕ, List, Some, None, Result, Err}
+use Rattle.std.specs.Prelude.{◌≡◌, ℕ, Some, None, Result, Err}
 use Rattle.cell_world.specs.Texts.{Text}
 use Rattle.plain_model.specs.declared.finish.Reason.{Reason}
 use Rattle.plain_model.specs.declared.finish.Reason.TheVariants.{BadWord}

@@ -1,5 +1,5 @@
 -- What a script is: its lines, and what each line says.
-use Rattle.std.specs.Prelude.{◌≡◌, ℕ, ◌+◌, Bool, true, false, ◌==◌, nat_lt, List, [], ◌∷◌, ◌++◌, length, map, Option, Some, None, Result, Ok, Err, is_ok, if◌then◌else◌, codes, IsTrue}
+use Rattle.std.specs.Prelude.{◌≡◌, ℕ, ◌+◌, Bool, false, ◌==◌, nat_lt, List, [], ◌∷◌, ◌++◌, length, map, Option, Some, None, Result, Ok, Err, is_ok, if◌then◌else◌, codes, IsTrue}
 use Rattle.std.specs.List.{list_all, find}
 use Rattle.std.specs.Str.Lines.{lines}
 use Rattle.cell_world.specs.Texts.{Text}
@@ -22,7 +22,7 @@ use Rattle.script_lang.specs.Words.{line_limit, is_line_byte, words}
 
 -- the commands that are built so far
 abbrev pub built : List Verb
-built = verb.Map ∷ []
+built = verb.Map ∷ verb.Unmap ∷ verb.Shard ∷ verb.Unshard ∷ verb.Table ∷ verb.Find ∷ verb.List ∷ verb.Shards ∷ []
 
 -- ---- one line
 

@@ -1,5 +1,5 @@
 -- The grammar of words: for each kind of word, the value that a text stands for, if it is such a word.
-use Rattle.std.specs.Prelude.{ℕ, ◌^◌, Bool, ◌&&◌, nat_le, List, length, Option, Some, None, option_map, option_and_then, if◌then◌else◌, codes}
+use Rattle.std.specs.Prelude.{ℕ, ◌^◌, Bool, ◌&&◌, nat_le, length, Option, Some, None, option_map, option_and_then, if◌then◌else◌, codes}
 use Rattle.std.specs.Int.{from_be_bytes, w128}
 use Rattle.cell_world.specs.Texts.{Text, is_name, is_location, is_key_text}
 use Rattle.cell_world.specs.ByteOrder.{byte_eq}

@@ -39,7 +39,6 @@ fn add_reason(alloc: Global, line: &mut Vec<u8>, reason: Reason) -> Result<(), M
             add(line, b"bad-word ")?;
             add_number(alloc, line, u64::from(number))
         }
-        Reason::NotBuilt => add(line, b"not-built"),
     }
 }
 

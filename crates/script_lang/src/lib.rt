@@ -3,6 +3,7 @@
 
 mod adding;
 mod arguments;
+pub mod command_line;
 pub mod endings;
 mod job_commands;
 mod key_words;
@@ -18,8 +19,6 @@ mod script_lines;
 pub mod scripts;
 mod site_commands;
 mod stops;
-#[cfg(test)]
-mod tests;
 mod values;
 pub mod verbs;
 mod words;

@@ -17,7 +17,16 @@ use std::alloc::Global;
 use thiserror::Error;
 
 /// The commands that are built so far: no other word begins a command.
-pub const BUILT: [Verb; 1] = [Verb::Map];
+pub const BUILT: [Verb; 8] = [
+    Verb::Map,
+    Verb::Unmap,
+    Verb::Shard,
+    Verb::Unshard,
+    Verb::Table,
+    Verb::Find,
+    Verb::List,
+    Verb::Shards,
+];
 
 /// The commands of a script, each with its session, in order.
 #[derive(Drop)]

@@ -41,6 +41,43 @@ pub enum Verb {
     Run,
 }
 
+/// Every command, in the order of the table.
+pub const ALL: [Verb; 33] = [
+    Verb::Map,
+    Verb::Unmap,
+    Verb::Shard,
+    Verb::Unshard,
+    Verb::Table,
+    Verb::Add,
+    Verb::Addpoint,
+    Verb::Delete,
+    Verb::Offline,
+    Verb::Online,
+    Verb::Move,
+    Verb::Split,
+    Verb::Merge,
+    Verb::Lock,
+    Verb::Unlock,
+    Verb::Find,
+    Verb::List,
+    Verb::Shards,
+    Verb::Open,
+    Verb::Close,
+    Verb::Put,
+    Verb::Get,
+    Verb::Del,
+    Verb::Peek,
+    Verb::Detach,
+    Verb::Attach,
+    Verb::Differences,
+    Verb::Resolve,
+    Verb::Discard,
+    Verb::Clear,
+    Verb::Job,
+    Verb::Step,
+    Verb::Run,
+];
+
 impl Verb {
     /// The word.
     pub fn word(self) -> &'static [u8]

@@ -1,243 +1,349 @@
 -- What the whole call promises, by how it ends.
-use Rattle.std.proofs.Common.{◌≡◌, ◌≢◌, ◌⊎◌, inl, inr, ℕ, ◌<◌, ◌≤◌, Bool, true, false, ◌==◌, List, [], ◌∷◌, length, Option, Some, None, option_map, refl, sym, ap, ◌∙◌, subst, arith}
+use Rattle.std.proofs.Common.{◌≡◌, ◌≢◌, ◌⊎◌, inl, inr, ⊎_elim, ℕ, ◌+◌, ◌<◌, ◌≤◌, Bool, true, false, List, [], ◌∷◌, length, Option, Some, None, option_map, refl, sym, ap, ◌∙◌, subst, arith}
 use Rattle.std.specs.Bool.{MatchBool}
 use Rattle.cell_world.specs.Texts.{Text}
-use Rattle.cell_world.specs.Counts.{Rose}
-use Rattle.cell_world.specs.Outside.{Outside}
-use Rattle.plain_model.specs.declared.finish.Reason.TheVariants.{NotBuilt}
+use Rattle.cell_world.specs.Counts.{Rose, NeverFall, StoreRose, store_count, last_count}
+use Rattle.cell_world.specs.Images.{Image, Trail, image_at, end_of_trail, global}
+use Rattle.cell_world.specs.Keys.{is_among}
+use Rattle.cell_world.specs.Outside.{Outside, Told, TellsNothing, TellsContents, TellsTrail, IfContents, IsLater, StoreRoseBy}
+use Rattle.cell_world.proofs.OutsideLaws.{later_same, later_then, store_rose_none, store_rose_one}
+use Rattle.plain_model.specs.declared.commands.Asked.{Asked}
+use Rattle.plain_model.specs.declared.finish.Reason.{Reason}
 use Rattle.plain_model.specs.declared.finish.RunStatus.{RunStatus}
 use Rattle.plain_model.specs.declared.finish.RunStatus.TheVariants as status
 use Rattle.plain_model.specs.declared.history.Entry.{Entry}
-use Rattle.plain_model.specs.declared.commands.Asked.{Asked}
+use Rattle.plain_model.specs.Summary.{replies_of, is_memory}
 use Rattle.plain_model.specs.Written.{EachReply}
-use Rattle.plain_model.specs.Headline.{Causes, StatusCause, ComesByInput, KeepsToStatus, StatusHasCause, EachOnceInOrder, did_nothing}
-use Rattle.plain_model.specs.RunSoFar.{resting}
+use Rattle.plain_model.specs.Headline.{Causes, StatusCause, ComesByInput, ComesByOpening, LeavesUnknown, TellsUnknown, IsUnknown, IsFirstUnknown, KeepsToStatus, StatusHasCause, EachOnceInOrder, EndsAnswered, ends_by_opening, ends_by_reading, faults, did_nothing}
+use Rattle.plain_model.specs.RunSoFar.{HoldsOnTrail, HoldsByStates, resting}
 use Rattle.plain_model.proofs.RunSoFar.{keeps_none, contents_none}
 use Rattle.plain_model.proofs.RunsAreHeadlines.{holds_on_trail, holds_by_states, is_headline, is_headline_alone}
-use Rattle.cell_world.proofs.OutsideLaws.{later_same, store_rose_none}
-use Rattle.script_shell.specs.Scripts.{IsScript, IsFirstFaulty, IfFaulty}
-use Rattle.script_shell.specs.declared.script.ScriptStop.{ScriptStop}
-use Rattle.script_shell.specs.declared.script.ScriptStop.TheVariants as stop
+use Rattle.site_names.specs.Named.{TellsFirst}
+use Rattle.manager_core.specs.Cores.{FaultHasCause}
+use Rattle.manager_core.specs.declared.opening.StartFault.{StartFault}
+use Rattle.manager_core.specs.declared.opening.StartFault.TheVariants as start
+use Rattle.script_lang.specs.declared.programs.Program.TheVariants.{Ctl}
+use Rattle.script_lang.specs.declared.command_line.Words.{Words}
+use Rattle.script_lang.specs.CommandLine.{options_built, SaysWords, IsAccepted, IsBadAt}
+use Rattle.script_lang.specs.Scripts.{built, IsScript, IsFirstFaulty}
 use Rattle.script_lang.specs.Sources.{script_limit, IfTold, HasMore, TookAtMost}
-use Rattle.script_shell.specs.Promises.{Runs, RunsScript, Completes, for_now, causes_of, no_causes, has_begun, was_read, is_of_commands, is_complete}
+use Rattle.script_shell.specs.Promises.{Runs, RunsScript, IsRead, Completes, for_now, causes_of, no_causes, has_begun, was_read, is_of_commands, is_of_reading, is_complete}
+use Rattle.script_shell.specs.Reading.{IsReadScript, StopsReading, unopened}
 use Rattle.script_shell.proofs.HistoryLaws.{in_order}
-use Rattle.script_shell.proofs.ScriptLaws.{script_is_whole, one_faulty}
+use Rattle.script_lang.proofs.WholeScripts.{script_is_whole, one_fault}
+use Rattle.script_shell.proofs.UnknownLaws.{one_unknown}
+use Rattle.script_shell.proofs.WordLaws.{accepted_is_not_bad, one_bad_place}
 
--- what the test of the words says
-pub no_words : {A : Type 0} (words : List A) (n : ℕ) (test : Bool) → test ≡ (n == 0) → test ≡ true → n ≡ length words → words ≡ []
-no_words [] n test is so len = refl
-no_words (word ∷ words) n test is so len = let zero : (n == 0) ≡ true = sym is ∙ so in absurd (grind (arith, zero, len))
-
-pub some_words : {A : Type 0} (words : List A) (n : ℕ) (test : Bool) → test ≡ (n == 0) → test ≡ false → n ≡ length words → words ≢ []
-some_words words n test is so len none = let some : (n == 0) ≡ false = sym is ∙ so in let zero : n ≡ 0 = len ∙ ap length none in absurd (grind (arith, some, zero))
-
--- the faulty line that was found
-pub faulty_at : (bytes text : Text) (found : ScriptStop) (line : ℕ) → text ≡ bytes → found ≡ stop.Faulty line → IfFaulty text found → IsFirstFaulty bytes line
-faulty_at bytes text found line same is faulty = subst (λ t. IsFirstFaulty t line) same (subst (IfFaulty text) is faulty)
-
--- nothing was asked
-served_nothing : (ending : RunStatus) → EachOnceInOrder for_now [] [] ending
-served_nothing ending = record { in_order = in_order [] [] [] refl [] tt (for_now.stops ending); all = λ is session. refl; all_after_fault = λ goes failed fault session. refl }
-
-kept_nothing : (o : Outside) (ending : RunStatus) → KeepsToStatus o o [] ending
-kept_nothing o ending = record { few_faults = store_rose_none o o (λ site. omega arith); ends_with_memory = tt; nothing = λ is. refl; unchanged = λ is. refl }
-
-module _ {A : Type 0} (words : List A) (left after : Option Text) (faults_before faults_after : ℕ) (o : Outside) (ending : RunStatus) (bytes : Text) where
-  abbrev causes : Causes
-  causes = causes_of words bytes faults_before faults_after
-
-  status_nothing : StatusCause for_now causes o o [] ending → ComesByInput causes ending → StatusHasCause for_now causes o o [] ending
-  status_nothing cause input = record { cause = cause; by_input = input; by_opening = λ opens. absurd cc; unknown = λ opens. absurd cc; kept = kept_nothing o ending }
-
-  -- what is read of the source, and why the run stopped
-  record StopsBy : Type 0 where
-    given : IfTold left bytes
-    untouched : (place : ℕ) → ending ≡ status.BadWords place → (after ≡ left) × (faults_after ≡ faults_before)
-    in_time : ending ≡ status.ReadFault → TookAtMost script_limit left after
-    drained : was_read ending ≡ true → after ≡ option_map (λ b. []) left
-    source : faults_before ≤ faults_after
-    unbegun : has_begun ending ≡ false
-    cause : StatusCause for_now causes o o [] ending
-    by_input : ComesByInput causes ending
-
-  runs_nothing : StopsBy → RunsScript words left after faults_before faults_after o o [] ending
-  runs_nothing stops = record {
-    bytes = bytes;
-    given = stops.given;
-    script = [];
-    read = unread (has_begun ending) stops.unbegun;
-    untouched = stops.untouched;
-    in_time = stops.in_time;
-    drained = stops.drained;
-    source = stops.source;
-    handed_back = λ is. refl;
-    later = later_same o;
-    headline = λ before told sound. is_headline for_now false causes [] before o o [] ending
-        (holds_on_trail false (for_now.stops ending) [] o.told o.told (resting []) [] ending (keeps_none (EachReply false) o.told (resting [])) (λ session. record { none = λ goes. refl; next = tt }) (inl refl) before told sound)
-        (served_nothing ending) (status_nothing stops.cause stops.by_input);
-    headline_alone = λ first told sound. is_headline_alone for_now causes [] first o o [] ending
-        (holds_by_states (for_now.stops ending) [] o.told o.told (resting []) (contents_none o.told (resting [])) (λ session. record { none = λ goes. refl; next = tt }) first told sound)
-        (served_nothing ending) (status_nothing stops.cause stops.by_input);
-    served = served_nothing ending;
-    status = status_nothing stops.cause stops.by_input;
-    ends_with_fault = tt;
-    no_operations = tt;
-  }
-    where
-      -- the script wasn't come to
-      unread : (begun : Bool) → begun ≡ false → MatchBool begun (IsScript bytes []) (IsScript bytes [] ⊎ (◌≡◌ {A = List Entry} [] []))
-      unread true is = absurd cc
-      unread false is = inr refl
+-- ---- before the stores
 
 -- where it isn't told, any bytes will do
 bytes_left : (left : Option Text) → (bytes : Text) × IfTold left bytes
 bytes_left None = ([], tt)
 bytes_left (Some bytes) = (bytes, refl)
 
--- bad words, with an untouched source
-pub bad_words : {A : Type 0} (words : List A) (left : Option Text) (faults : ℕ) (o : Outside) (history : List Entry) → history ≡ [] → words ≢ [] → RunsScript words left left faults faults o o history (status.BadWords 1)
-bad_words words left faults o history none some = subst (λ h. RunsScript words left left faults faults o o h (status.BadWords 1)) (sym none)
-    (runs_nothing words left left faults faults o (status.BadWords 1) (bytes_left left).0 (record {
-      given = (bytes_left left).1;
-      untouched = λ place at. (refl, refl);
-      in_time = λ at. absurd cc;
-      drained = λ is. absurd cc;
-      source = omega arith;
-      unbegun = refl;
-      cause = (some, refl);
-      by_input = record { words = λ place at. inl (ap status.BadWords (sym at.1)); reading = λ long. refl; script = λ line reason at. inr refl };
-    }))
+module _ (words : List Text) (left : Option Text) (faults : ℕ) where
+  -- bad words, with an untouched source
+  pub bad_words : (place : ℕ) → IsBadAt (IsAccepted Ctl options_built) words place → StopsReading words left left faults faults (status.BadWords place)
+  bad_words place bad = record {
+    bytes = (bytes_left left).0;
+    given = (bytes_left left).1;
+    untouched = λ other at. (refl, refl);
+    in_time = λ at. absurd cc;
+    drained = λ is. absurd cc;
+    source = omega arith;
+    unbegun = refl;
+    before_opening = refl;
+    cause = λ old new. bad;
+    by_input = record {
+      words = λ other also. inl (ap status.BadWords (one_bad_place (IsAccepted Ctl options_built) words place other bad also));
+      reading = λ long. refl;
+      script = λ line reason at. inr refl;
+    };
+  }
 
-module _ {A : Type 0} (words : List A) (left after : Option Text) (faults_before faults_after : ℕ) (never_falls : faults_before ≤ faults_after) (o : Outside) (history : List Entry) (none : history ≡ []) (no_words : words ≡ []) where
-  -- what stopped it before the script was read
-  abbrev Stops : RunStatus → Type 0
-  Stops ending = RunsScript words left after faults_before faults_after o o history ending
-
-  empty : (ending : RunStatus) → RunsScript words left after faults_before faults_after o o [] ending → Stops ending
-  empty ending runs = subst (λ h. RunsScript words left after faults_before faults_after o o h ending) (sym none) runs
-
-  pub read_fault : Rose faults_before faults_after → TookAtMost script_limit left after → Stops status.ReadFault
-  read_fault rose took = empty status.ReadFault (runs_nothing words left after faults_before faults_after o status.ReadFault (bytes_left left).0 (record {
+  pub words_memory : StopsReading words left left faults faults status.Memory
+  words_memory = record {
+    bytes = (bytes_left left).0;
     given = (bytes_left left).1;
     untouched = λ place at. absurd cc;
-    in_time = λ at. took;
+    in_time = λ at. absurd cc;
     drained = λ is. absurd cc;
-    source = never_falls;
+    source = omega arith;
     unbegun = refl;
-    cause = rose;
-    by_input = record { words = λ place at. absurd (at.0 no_words); reading = λ long. refl; script = λ line reason at. inr refl };
-  }))
+    before_opening = refl;
+    cause = λ old new. tt;
+    by_input = record { words = λ place at. inr refl; reading = λ long. refl; script = λ line reason at. inr refl };
+  }
 
-  pub too_long : HasMore script_limit left → Stops status.TooLong
-  too_long more = empty status.TooLong (runs_nothing words left after faults_before faults_after o status.TooLong more.bytes (record {
+module _ (words : List Text) (left after : Option Text) (faults_before faults_after : ℕ) (says : Words) (accepted : SaysWords Ctl options_built words says) (falls : faults_before ≤ faults_after) where
+  no_bad_words : (place : ℕ) → IsBadAt (IsAccepted Ctl options_built) words place → ⊥
+  no_bad_words place bad = accepted_is_not_bad (IsAccepted Ctl options_built) words place bad (says, accepted)
+
+  pub read_fault : Rose faults_before faults_after → TookAtMost script_limit left after → StopsReading words left after faults_before faults_after status.ReadFault
+  read_fault rose in_time = record {
+    bytes = (bytes_left left).0;
+    given = (bytes_left left).1;
+    untouched = λ place at. absurd cc;
+    in_time = λ at. in_time;
+    drained = λ is. absurd cc;
+    source = falls;
+    unbegun = refl;
+    before_opening = refl;
+    cause = λ old new. rose;
+    by_input = record { words = λ place at. absurd (no_bad_words place at); reading = λ long. refl; script = λ line reason at. inr refl };
+  }
+
+  pub too_long : HasMore script_limit left → StopsReading words left after faults_before faults_after status.TooLong
+  too_long more = record {
+    bytes = more.bytes;
     given = more.told;
     untouched = λ place at. absurd cc;
     in_time = λ at. absurd cc;
     drained = λ is. absurd cc;
-    source = never_falls;
+    source = falls;
     unbegun = refl;
-    cause = more.long;
-    by_input = record { words = λ place at. absurd (at.0 no_words); reading = λ long. refl; script = λ line reason at. inr refl };
-  }))
+    before_opening = refl;
+    cause = λ old new. more.long;
+    by_input = record { words = λ place at. absurd (no_bad_words place at); reading = λ long. refl; script = λ line reason at. inr refl };
+  }
 
-  pub no_memory : Stops status.Memory
-  no_memory = empty status.Memory (runs_nothing words left after faults_before faults_after o status.Memory (bytes_left left).0 (record {
+  pub read_memory : StopsReading words left after faults_before faults_after status.Memory
+  read_memory = record {
+    bytes = (bytes_left left).0;
     given = (bytes_left left).1;
     untouched = λ place at. absurd cc;
     in_time = λ at. absurd cc;
     drained = λ is. absurd cc;
-    source = never_falls;
+    source = falls;
     unbegun = refl;
-    cause = tt;
+    before_opening = refl;
+    cause = λ old new. tt;
     by_input = record { words = λ place at. inr refl; reading = λ long. refl; script = λ line reason at. inr refl };
-  }))
+  }
 
-  pub bad_script : (bytes : Text) (line : ℕ) → IfTold left bytes → after ≡ option_map (λ b. []) left → length bytes ≤ script_limit → IsFirstFaulty bytes line → Stops (status.BadScript line NotBuilt)
-  bad_script bytes line given drained short faulty = empty (status.BadScript line NotBuilt) (runs_nothing words left after faults_before faults_after o (status.BadScript line NotBuilt) bytes (record {
+  pub bad_script : (bytes : Text) (line : ℕ) (reason : Reason) → IfTold left bytes → after ≡ option_map (λ b. []) left → length bytes ≤ script_limit → IsFirstFaulty Ctl built bytes line reason
+      → StopsReading words left after faults_before faults_after (status.BadScript line reason)
+  bad_script bytes line reason given drained short faulty = record {
+    bytes = bytes;
     given = given;
     untouched = λ place at. absurd cc;
     in_time = λ at. absurd cc;
     drained = λ is. drained;
-    source = never_falls;
+    source = falls;
     unbegun = refl;
-    cause = (faulty, refl);
+    before_opening = refl;
+    cause = λ old new. faulty;
     by_input = record {
-      words = λ place at. absurd (at.0 no_words);
+      words = λ place at. absurd (no_bad_words place at);
       reading = λ long. absurd (omega (arith, long, short));
-      script = λ other reason at. inl (λ i. status.BadScript (one_faulty bytes line other faulty at.0 i) (sym at.1 i));
+      script = λ other why at. let one = one_fault Ctl built bytes line other reason why faulty at in inl (λ i. status.BadScript (one.0 i) (one.1 i));
     };
-  }))
+  }
 
--- by another name of the status
-pub with_status : {A : Type 0} (words : List A) (left after : Option Text) (faults_before faults_after : ℕ) (o : Outside) (history : List Entry) (found ending : RunStatus) → found ≡ ending
-    → RunsScript words left after faults_before faults_after o o history ending → RunsScript words left after faults_before faults_after o o history found
-with_status words left after faults_before faults_after o history found ending is runs = subst (RunsScript words left after faults_before faults_after o o history) (sym is) runs
+  pub script_read : (bytes : Text) (script : List Asked) → IfTold left bytes → after ≡ option_map (λ b. []) left → length bytes ≤ script_limit → IsScript Ctl built bytes script → IsReadScript words left after faults_before faults_after script
+  script_read bytes script given drained short grammar = record { accepted = (says, accepted); bytes = bytes; given = given; drained = drained; short = short; grammar = grammar; source = falls }
 
--- a status that comes of the commands has its cause, whatever words and input say
-comes_of_commands : (causes : Causes) (old new : Outside) (history : List Entry) (ending : RunStatus) → is_of_commands ending ≡ true → StatusCause for_now no_causes old new history ending
-    → StatusCause for_now causes old new history ending × (did_nothing ending ≡ false)
-comes_of_commands causes old new history status.Done of_commands cause = (cause, refl)
-comes_of_commands causes old new history status.Refused of_commands cause = (cause, refl)
-comes_of_commands causes old new history (status.BadWords place) of_commands cause = absurd cause
-comes_of_commands causes old new history (status.BadScript line reason) of_commands cause = absurd cause
-comes_of_commands causes old new history status.ReadFault of_commands cause = absurd cause
-comes_of_commands causes old new history status.WriteFault of_commands cause = (cause, refl)
-comes_of_commands causes old new history status.StoreFault of_commands cause = (cause, refl)
-comes_of_commands causes old new history status.Memory of_commands cause = (cause, refl)
-comes_of_commands causes old new history status.TooLong of_commands cause = absurd cause
-comes_of_commands causes old new history (status.UnknownLocation location) of_commands cause = absurd cc
+-- ---- counts, from an earlier moment on
 
--- the commands were run
-pub commands_run : {A : Type 0} (words : List A) (left after : Option Text) (faults_before faults_after : ℕ) (old new : Outside) (history : List Entry) (ending : RunStatus) (bytes : Text) (script : List Asked) → words ≡ []
-    → IfTold left bytes → after ≡ option_map (λ b. []) left → length bytes ≤ script_limit → faults_before ≤ faults_after → IsScript bytes script → Runs script old new history ending → StatusCause for_now no_causes old new history ending
-    → is_of_commands ending ≡ true → RunsScript words left after faults_before faults_after old new history ending
-commands_run words left after faults_before faults_after old new history ending bytes script no_words given drained short never_falls grammar runs cause of_commands = record {
-  bytes = bytes;
-  given = given;
-  script = script;
-  read = is_read (has_begun ending);
-  untouched = λ place at. let no : true ≡ false = sym of_commands ∙ ap is_of_commands at in absurd cc;
-  in_time = λ at. let no : true ≡ false = sym of_commands ∙ ap is_of_commands at in absurd cc;
-  drained = λ is. drained;
-  source = never_falls;
-  handed_back = λ is. let no : true ≡ false = sym is ∙ comes.1 in absurd cc;
-  later = runs.later;
-  headline = λ before told sound. is_headline for_now false causes script before old new history ending (runs.on_trail before told sound) runs.served caused;
-  headline_alone = λ first told sound. is_headline_alone for_now causes script first old new history ending (runs.by_states first told sound) runs.served caused;
-  served = runs.served;
-  status = caused;
-  ends_with_fault = runs.ends_with_fault;
-  no_operations = runs.no_operations;
+rose_before : (a b c : ℕ) → a ≤ b → Rose b c → Rose a c
+rose_before a b c up rose = omega (arith, rose, up)
+
+sums_up : (n : ℕ) (old new : ℕ → ℕ) → NeverFall old new → store_count n old ≤ store_count n new
+sums_up Rattle.std.proofs.Common.zero old new up = omega arith
+sums_up (Rattle.std.proofs.Common.suc n) old new up = omega (arith, sums_up n old new up, up n)
+
+store_rose_before : (n by : ℕ) (a b c : ℕ → ℕ) → NeverFall a b → StoreRose n by b c → StoreRose n by a c
+store_rose_before n by a b c up rose = ⊎_elim (λ last. inl last) (λ more. inr (omega (arith, more, sums_up n a b up))) rose
+
+rose_by_before : (by : ℕ) (a b c : Outside) → IsLater a b → StoreRoseBy by b c → StoreRoseBy by a c
+rose_by_before by a b c later rose = store_rose_before (length a.locations + 1) by a.faults_at b.faults_at c.faults_at later.faults (subst (λ l. StoreRose (length l + 1) by b.faults_at c.faults_at) later.locations rose)
+
+-- ---- nothing was asked
+
+served_nothing : (ending : RunStatus) → EachOnceInOrder for_now [] [] ending
+served_nothing ending = record { in_order = in_order [] [] [] refl [] tt (for_now.stops ending); all = λ is session. refl; all_after_fault = λ goes failed fault session. refl }
+
+-- a script of which nothing was asked
+served_none : (script : List Asked) (ending : RunStatus) → Rattle.plain_model.specs.Headline.is_done ending ≡ false → EachOnceInOrder for_now script [] ending
+served_none script ending not_done = record {
+  in_order = in_order script [] script refl [] tt (for_now.stops ending);
+  all = λ is. let both : true ≡ false = sym is ∙ not_done in absurd cc;
+  all_after_fault = λ goes failed some. absurd (omega (arith, some));
 }
-  where
-    causes : Causes
-    causes = causes_of words bytes faults_before faults_after
 
-    comes : StatusCause for_now (causes_of words bytes faults_before faults_after) old new history ending × (did_nothing ending ≡ false)
-    comes = comes_of_commands (causes_of words bytes faults_before faults_after) old new history ending of_commands cause
+-- what is told stays
+module _ (words : List Text) (left after : Option Text) (faults_before faults_after : ℕ) (old new : Outside) (ending : RunStatus) (bytes : Text) (script : List Asked) (same : new.told ≡ old.told) (later : IsLater old new) where
+  abbrev causes : Causes
+  causes = causes_of words bytes faults_before faults_after
 
-    caused : StatusHasCause for_now (causes_of words bytes faults_before faults_after) old new history ending
-    caused = record {
-      cause = comes.0;
-      by_input = record {
-        words = λ place at. absurd (at.0 no_words);
-        reading = λ long. absurd (omega (arith, long, short));
-        script = λ line reason at. absurd (script_is_whole bytes script line grammar at.0);
-      };
-      by_opening = λ opens. absurd cc;
-      unknown = λ opens. absurd cc;
-      kept = runs.kept;
+  status_nothing : StatusCause for_now causes old new [] ending → ComesByInput causes ending → ComesByOpening old ending → StatusHasCause for_now causes old new [] ending
+  status_nothing cause input opening = record {
+    cause = cause;
+    by_input = input;
+    by_opening = λ opens. opening;
+    unknown = λ opens location told. (refl, same);
+    kept = record { few_faults = store_rose_none old new later.faults; ends_with_memory = tt; nothing = λ is. refl; unchanged = λ is. same };
+  }
+
+  module _ (given : IfTold left bytes) (read : IsRead bytes script [] ending) (untouched : (place : ℕ) → ending ≡ status.BadWords place → (after ≡ left) × (faults_after ≡ faults_before)) (in_time : ending ≡ status.ReadFault → TookAtMost script_limit left after)
+      (drained : was_read ending ≡ true → after ≡ option_map (λ b. []) left) (source : faults_before ≤ faults_after) (handed_back : is_of_reading ending ≡ true → new ≡ old) (served : EachOnceInOrder for_now script [] ending)
+      (cause : StatusCause for_now causes old new [] ending) (input : ComesByInput causes ending) (opening : ComesByOpening old ending) where
+    pub runs_nothing : RunsScript words left after faults_before faults_after old new [] ending
+    runs_nothing = record {
+      bytes = bytes;
+      given = given;
+      script = script;
+      read = read;
+      untouched = untouched;
+      in_time = in_time;
+      drained = drained;
+      source = source;
+      handed_back = handed_back;
+      later = later;
+      headline = λ before told sound no_log. is_headline for_now false causes script before old new [] ending
+          (holds_on_trail false (for_now.stops ending) script old.told new.told (resting []) [] ending
+          (subst (λ t. Rattle.plain_model.specs.RunSoFar.KeepsRun (EachReply false) old.told (resting []) t (resting []) []) (sym same) (keeps_none (EachReply false) old.told (resting [])))
+          (λ session. record { none = λ goes. refl; next = tt }) (inl refl) before told sound)
+          served (status_nothing cause input opening);
+      headline_alone = λ first told sound no_log. is_headline_alone for_now causes script first old new [] ending
+          (holds_by_states (for_now.stops ending) script old.told new.told (resting [])
+          (subst (λ t. Rattle.plain_model.specs.RunSoFar.KeepsContents old.told (resting []) t (resting [])) (sym same) (contents_none old.told (resting []))) (λ session. record { none = λ goes. refl; next = tt }) first told sound)
+          served (status_nothing cause input opening);
+      served = served;
+      status = status_nothing cause input opening;
+      ends_with_fault = tt;
+      no_operations = tt;
     }
 
-    is_read : (begun : Bool) → MatchBool begun (IsScript bytes script) (IsScript bytes script ⊎ (history ≡ []))
-    is_read true = grammar
-    is_read false = inl grammar
+-- the run stopped before the stores
+pub stops_reading : (words : List Text) (left after : Option Text) (faults_before faults_after : ℕ) (o : Outside) (history : List Entry) (found ending : RunStatus) → found ≡ ending → history ≡ [] → StopsReading words left after faults_before faults_after ending
+    → RunsScript words left after faults_before faults_after o o history found
+stops_reading words left after faults_before faults_after o history found ending is none stops =
+    subst (λ s. RunsScript words left after faults_before faults_after o o history s) (sym is)
+    (subst (λ h. RunsScript words left after faults_before faults_after o o h ending) (sym none)
+    (runs_nothing words left after faults_before faults_after o o ending stops.bytes [] refl (later_same o) stops.given (unread (has_begun ending) stops.unbegun) stops.untouched stops.in_time stops.drained stops.source
+    (λ of_reading. refl) (served_nothing ending) (stops.cause o o) stops.by_input (λ location told. inr stops.before_opening)))
+  where
+    -- the script wasn't come to
+    unread : (begun : Bool) → begun ≡ false → MatchBool begun (IsScript Ctl built stops.bytes []) (IsScript Ctl built stops.bytes [] ⊎ (◌≡◌ {A = List Entry} [] []))
+    unread true is = absurd cc
+    unread false is = inr refl
+
+-- ---- the script was read
+
+module _ (words : List Text) (left after : Option Text) (faults_before faults_after : ℕ) (script : List Asked) (read : IsReadScript words left after faults_before faults_after script) where
+  abbrev its_causes : Causes
+  its_causes = causes_of words read.bytes faults_before faults_after
+
+  -- nothing of the words and of the input is a cause
+  by_input : (ending : RunStatus) → ComesByInput its_causes ending
+  by_input ending = record {
+    words = λ place bad. absurd (accepted_is_not_bad (IsAccepted Ctl options_built) words place bad read.accepted);
+    reading = λ long. absurd (omega (arith, long, read.short));
+    script = λ line reason at. absurd (script_is_whole Ctl built read.bytes script line reason read.grammar at);
+  }
+
+  is_read : (history : List Entry) (begun : Bool) → MatchBool begun (IsScript Ctl built read.bytes script) (IsScript Ctl built read.bytes script ⊎ (history ≡ []))
+  is_read history true = read.grammar
+  is_read history false = inl read.grammar
+
+  -- ---- the stores couldn't be opened
+
+  pub stops_opening : (old new : Outside) (history : List Entry) (fault : StartFault) (found : RunStatus) → found ≡ unopened fault → history ≡ [] → FaultHasCause old new fault → new.told ≡ old.told → IsLater old new
+      → RunsScript words left after faults_before faults_after old new history found
+  stops_opening old new history fault found is none caused same later =
+      subst (λ s. RunsScript words left after faults_before faults_after old new history s) (sym is)
+      (subst (λ h. RunsScript words left after faults_before faults_after old new h (unopened fault)) (sym none) (by fault caused))
+    where
+      by : (fault : StartFault) → FaultHasCause old new fault → RunsScript words left after faults_before faults_after old new [] (unopened fault)
+      by start.Store rose = runs_nothing words left after faults_before faults_after old new status.StoreFault read.bytes script same later read.given read.grammar (λ place at. absurd cc) (λ at. absurd cc) (λ is. read.drained) read.source (λ is. absurd cc)
+          (served_none script status.StoreFault refl) (store_rose_one old new later.faults rose, inr (refl, refl), refl) (by_input status.StoreFault) (λ location told. inr refl)
+      by start.Memory caused = runs_nothing words left after faults_before faults_after old new status.Memory read.bytes script same later read.given (inl read.grammar) (λ place at. absurd cc) (λ at. absurd cc) (λ is. absurd cc) read.source (λ is. absurd cc)
+          (served_none script status.Memory refl) tt (by_input status.Memory) (λ location told. inr refl)
+      by (start.UnknownLocation location) caused = runs_nothing words left after faults_before faults_after old new (status.UnknownLocation location) read.bytes script same later read.given read.grammar (λ place at. absurd cc) (λ at. absurd cc)
+          (λ is. read.drained) read.source (λ is. absurd cc) (served_none script (status.UnknownLocation location) refl) (refl, caused.0, caused.1) (by_input (status.UnknownLocation location))
+          (λ other told. inl (ap status.UnknownLocation (one_unknown old location other caused.1 told)))
+
+  -- ---- the commands were run
+
+  module _ (old mid new : Outside) (history : List Entry) (ending : RunStatus) (same : mid.told ≡ old.told) (later : IsLater old mid) (known : IfContents old.told (λ image. TellsFirst (global image) old.locations None)) (runs : Runs script mid new history ending)
+      (cause : StatusCause for_now no_causes mid new history ending) (of_commands : is_of_commands ending ≡ true) where
+    -- a status that comes of the commands has its cause, whatever words and input say
+    comes : StatusCause for_now its_causes old new history ending × (did_nothing ending ≡ false)
+    comes = by ending of_commands cause
+      where
+        by : (ending : RunStatus) → is_of_commands ending ≡ true → StatusCause for_now no_causes mid new history ending → StatusCause for_now its_causes old new history ending × (did_nothing ending ≡ false)
+        by status.Done of cause = (cause, refl)
+        by status.Refused of cause = (cause, refl)
+        by (status.BadWords place) of cause = absurd cause
+        by (status.BadScript line reason) of cause = absurd cause
+        by status.ReadFault of cause = absurd cause
+        by status.WriteFault of cause = ((rose_before old.sink_faults mid.sink_faults new.sink_faults later.sink cause.0, cause.1), refl)
+        by status.StoreFault of cause = ((rose_by_before 1 old mid new later cause.0, cause.1, cause.2), refl)
+        by status.Memory of cause = (cause, refl)
+        by status.TooLong of cause = absurd cause
+        by (status.UnknownLocation location) of cause = absurd cc
+
+    -- the stores name no unknown location
+    none_unknown : (location : Text) → TellsUnknown old location → ⊥
+    none_unknown location = by old.told known
+      where
+        by : (told : Told) → IfContents told (λ image. TellsFirst (global image) old.locations None) → TellsUnknown (record old { told = told }) location → ⊥
+        by TellsNothing all is = is
+        by (TellsContents image) all is = all location is
+        by (TellsTrail trail) all is = all location is
+
+    caused : StatusHasCause for_now its_causes old new history ending
+    caused = record {
+      cause = comes.0;
+      by_input = by_input ending;
+      by_opening = λ opens location told. absurd (none_unknown location told);
+      unknown = λ opens location told. absurd (none_unknown location told);
+      kept = record {
+        few_faults = rose_by_before (faults history) old mid new later runs.kept.few_faults;
+        ends_with_memory = runs.kept.ends_with_memory;
+        nothing = runs.kept.nothing;
+        unchanged = λ is. let both : true ≡ false = sym is ∙ comes.1 in absurd cc;
+      };
+    }
+
+    pub commands_run : RunsScript words left after faults_before faults_after old new history ending
+    commands_run = record {
+      bytes = read.bytes;
+      given = read.given;
+      script = script;
+      read = is_read history (has_begun ending);
+      untouched = λ place at. let both : true ≡ false = sym of_commands ∙ ap is_of_commands at in absurd cc;
+      in_time = λ at. let both : true ≡ false = sym of_commands ∙ ap is_of_commands at in absurd cc;
+      drained = λ is. read.drained;
+      source = read.source;
+      handed_back = λ is. absurd (not_both ending of_commands is);
+      later = later_then old mid new later runs.later;
+      headline = λ before told sound no_log. is_headline for_now false its_causes script before old new history ending (runs.on_trail before (same ∙ told) sound no_log) runs.served caused;
+      headline_alone = λ first told sound no_log. is_headline_alone for_now its_causes script first old new history ending (runs.by_states first (same ∙ told) sound no_log) runs.served caused;
+      served = runs.served;
+      status = caused;
+      ends_with_fault = runs.ends_with_fault;
+      no_operations = runs.no_operations;
+    }
+      where
+        not_both : (ending : RunStatus) → is_of_commands ending ≡ true → is_of_reading ending ≡ true → ⊥
+        not_both status.Done of is = absurd cc
+        not_both status.Refused of is = absurd cc
+        not_both (status.BadWords place) of is = absurd cc
+        not_both (status.BadScript line reason) of is = absurd cc
+        not_both status.ReadFault of is = absurd cc
+        not_both status.WriteFault of is = absurd cc
+        not_both status.StoreFault of is = absurd cc
+        not_both status.Memory of is = absurd cc
+        not_both status.TooLong of is = absurd cc
+        not_both (status.UnknownLocation location) of is = absurd cc
 
 -- ---- completeness
 
-pub completes : {A : Type 0} (words : List A) (left after : Option Text) (faults_before faults_after : ℕ) (old new : Outside) (history : List Entry) (ending : RunStatus)
+pub completes : (words : List Text) (left after : Option Text) (faults_before faults_after : ℕ) (old new : Outside) (history : List Entry) (ending : RunStatus)
     → RunsScript words left after faults_before faults_after old new history ending → Completes words left faults_before faults_after old new ending
-completes words left after faults_before faults_after old new history ending runs bytes script no_words told grammar short source sink store = by ending runs.status.cause
+completes words left after faults_before faults_after old new history ending runs bytes script accepted told grammar short source sink store = by ending runs.status.cause
   where
     same : runs.bytes ≡ bytes
     same = sym (let given : IfTold (Some bytes) runs.bytes = subst (λ o. IfTold o runs.bytes) told runs.given in given)
@@ -245,11 +351,11 @@ completes words left after faults_before faults_after old new history ending run
     by : (ending : RunStatus) → StatusCause for_now (causes_of words runs.bytes faults_before faults_after) old new history ending → is_complete ending ≡ true
     by status.Done cause = refl
     by status.Refused cause = refl
-    by (status.BadWords place) cause = absurd (cause.0 no_words)
-    by (status.BadScript line reason) cause = absurd (script_is_whole bytes script line grammar (subst (λ b. IsFirstFaulty b line) same cause.0))
+    by (status.BadWords place) cause = absurd (accepted_is_not_bad (IsAccepted Ctl options_built) words place cause accepted)
+    by (status.BadScript line reason) cause = absurd (script_is_whole Ctl built bytes script line reason grammar (subst (λ b. IsFirstFaulty Ctl built b line reason) same cause))
     by status.ReadFault cause = absurd (source cause)
     by status.WriteFault cause = absurd (sink cause.0)
     by status.StoreFault cause = absurd (store cause.0)
     by status.Memory cause = refl
     by status.TooLong cause = let long : script_limit < length bytes = subst (λ b. script_limit < length b) same cause in absurd (omega (arith, long, short))
-    by (status.UnknownLocation location) cause = absurd cc
+    by (status.UnknownLocation location) cause = refl

@@ -2,3 +2,5 @@ pub mod CallLaws
 pub mod HistoryLaws
 pub mod LoopLaws
 pub mod ScriptLaws
+pub mod UnknownLaws
+pub mod WordLaws

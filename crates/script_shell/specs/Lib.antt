@@ -1,4 +1,4 @@
 pub mod Promises
 pub mod Readers
-pub mod Scripts
+pub mod Reading
 pub mod Stops

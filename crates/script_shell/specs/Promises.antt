@@ -8,35 +8,40 @@ use Rattle.cell_world.specs.Images.{Image, Trail, image_at, end_of_trail}
 use Rattle.cell_world.specs.Sound.{Sound}
 use Rattle.cell_world.specs.Outside.{Outside, TellsContents, TellsTrail, IsLater, StoreRoseBy}
 use Rattle.plain_model.specs.declared.commands.Asked.{Asked}
-use Rattle.plain_model.specs.declared.finish.Reason.TheVariants.{NotBuilt}
 use Rattle.plain_model.specs.declared.finish.RunStatus.{RunStatus}
 use Rattle.plain_model.specs.declared.finish.RunStatus.TheVariants as status
 use Rattle.plain_model.specs.declared.history.Entry.{Entry}
 use Rattle.plain_model.specs.Refusing.{if_there}
 use Rattle.plain_model.specs.Summary.{is_fault}
 use Rattle.plain_model.specs.Written.{EachReply}
-use Rattle.plain_model.specs.Headline.{Manner, Causes, has_stopped, is_done, is_store_fault, did_nothing, EachOnceInOrder, KeepsToStatus, StatusHasCause, Headline, HeadlineAlone}
+use Rattle.plain_model.specs.Headline.{Manner, Causes, has_stopped, is_done, is_store_fault, EachOnceInOrder, KeepsToStatus, StatusHasCause, Headline, HeadlineAlone}
 use Rattle.plain_model.specs.RunSoFar.{HoldsOnTrail, HoldsByStates}
-use Rattle.script_shell.specs.Scripts.{IsScript, IsFirstFaulty}
+use Rattle.script_lang.specs.declared.programs.Program.TheVariants.{Ctl}
+use Rattle.script_lang.specs.declared.command_line.Words.{Words}
+use Rattle.script_lang.specs.CommandLine.{options_built, SaysWords, IsAccepted, IsBadAt}
+use Rattle.script_lang.specs.Scripts.{built, IsScript, IsFirstFaulty}
 use Rattle.script_lang.specs.Sources.{script_limit, IfTold, TookAtMost}
+use Rattle.manager_core.specs.Answering.{NoLog}
 
 -- ---- statuses
 
--- For now a run stops with a `fault` too, and it doesn't look at the stores before the first command.
+-- For now a run stops with a `fault` too.
 abbrev pub for_now : Manner
-for_now = record { stops = λ ending. has_stopped ending || is_store_fault ending; opens = false }
+for_now = record { stops = λ ending. has_stopped ending || is_store_fault ending; opens = true }
 
--- the script was read, and the run came to its commands
+-- the script was read, and the run came to the stores
 abbrev pub has_begun : RunStatus → Bool
 has_begun status.Done = true
 has_begun status.Refused = true
 has_begun status.WriteFault = true
 has_begun status.StoreFault = true
+has_begun (status.UnknownLocation location) = true
 has_begun other = false
 
 -- the statuses that commands come to
 abbrev pub is_of_commands : RunStatus → Bool
 is_of_commands status.Memory = true
+is_of_commands (status.UnknownLocation location) = false
 is_of_commands other = has_begun other
 
 -- the source was read to its end
@@ -44,18 +49,27 @@ abbrev pub was_read : RunStatus → Bool
 was_read (status.BadScript line reason) = true
 was_read other = has_begun other
 
--- status 0, 1 or 6
+-- status 2, 3 or 7: the run didn't come to the stores
+abbrev pub is_of_reading : RunStatus → Bool
+is_of_reading (status.BadWords place) = true
+is_of_reading (status.BadScript line reason) = true
+is_of_reading status.ReadFault = true
+is_of_reading status.TooLong = true
+is_of_reading other = false
+
+-- status 0, 1 or 6, or 8
 abbrev pub is_complete : RunStatus → Bool
 is_complete status.Memory = true
+is_complete (status.UnknownLocation location) = true
 is_complete other = is_done other
 
 -- ---- causes
 
 -- what the words, the bytes of the script and the source's count of faults say
-abbrev pub causes_of : {A : Type 0} → List A → Text → ℕ → ℕ → Causes
+abbrev pub causes_of : List Text → Text → ℕ → ℕ → Causes
 causes_of words bytes faults_before faults_after = record {
-  bad_words = λ place. (words ≢ []) × (place ≡ 1);  -- no words are accepted
-  bad_script = λ line reason. IsFirstFaulty bytes line × (reason ≡ NotBuilt);
+  bad_words = IsBadAt (IsAccepted Ctl options_built) words;
+  bad_script = IsFirstFaulty Ctl built bytes;
   too_long = script_limit < length bytes;
   source_rose = Rose faults_before faults_after;
 }
@@ -74,10 +88,11 @@ EndsWithFault (e ∷ f ∷ es) = (if_there is_fault e.reply ≡ false) × EndsWi
 
 -- How the commands of a script were run.
 pub record Runs (script : List Asked) (old new : Outside) (history : List Entry) (ending : RunStatus) : Type 0 where
-  -- from a sound image on, where the trail is told
-  pub on_trail : (before : Trail) → old.told ≡ TellsTrail before → Sound (image_at before (end_of_trail before)) → HoldsOnTrail (EachReply false) (for_now.stops ending) script before new.told history ending
-  -- from a sound image on, where the contents alone are told
-  pub by_states : (first : Image) → old.told ≡ TellsContents first → Sound first → HoldsByStates (for_now.stops ending) script first new.told history
+  -- from a sound image without a logged operation on, where the trail is told
+  pub on_trail : (before : Trail) → old.told ≡ TellsTrail before → Sound (image_at before (end_of_trail before)) → NoLog (image_at before (end_of_trail before))
+      → HoldsOnTrail (EachReply false) (for_now.stops ending) script before new.told history ending
+  -- and where the contents alone are told
+  pub by_states : (first : Image) → old.told ≡ TellsContents first → Sound first → NoLog first → HoldsByStates (for_now.stops ending) script first new.told history
   -- each command once and in order
   pub served : EachOnceInOrder for_now script history ending
   -- what the status says besides its cause
@@ -93,10 +108,10 @@ pub record Runs (script : List Asked) (old new : Outside) (history : List Entry)
 
 -- the bytes are those of this script; or the script wasn't come to, and nothing was asked
 abbrev pub IsRead : Text → List Asked → List Entry → RunStatus → Type 0
-IsRead bytes script history ending = MatchBool (has_begun ending) (IsScript bytes script) (IsScript bytes script ⊎ (history ≡ []))
+IsRead bytes script history ending = MatchBool (has_begun ending) (IsScript Ctl built bytes script) (IsScript Ctl built bytes script ⊎ (history ≡ []))
 
 -- What the whole call promises, from the words and the bytes on.
-pub record RunsScript {A : Type 0} (words : List A) (left after : Option Text) (faults_before faults_after : ℕ) (old new : Outside) (history : List Entry) (ending : RunStatus) : Type 0 where
+pub record RunsScript (words : List Text) (left after : Option Text) (faults_before faults_after : ℕ) (old new : Outside) (history : List Entry) (ending : RunStatus) : Type 0 where
   -- what the source had left, where it tells that
   pub bytes : Text
   pub given : IfTold left bytes
@@ -112,13 +127,13 @@ pub record RunsScript {A : Type 0} (words : List A) (left after : Option Text) (
   -- the source's count doesn't fall
   pub source : faults_before ≤ faults_after
   -- for the statuses 2, 3 and 7 the world is handed back as it was
-  pub handed_back : did_nothing ending ≡ true → new ≡ old
+  pub handed_back : is_of_reading ending ≡ true → new ≡ old
   -- and else it is the same one later
   pub later : IsLater old new
-  -- the headline, from a sound image on: over a world that tells its trail, and over one that tells its contents alone
-  pub headline : (before : Trail) → old.told ≡ TellsTrail before → Sound (image_at before (end_of_trail before))
+  -- the headline, from a sound image without a logged operation on: over a world that tells its trail, and over one that tells its contents alone
+  pub headline : (before : Trail) → old.told ≡ TellsTrail before → Sound (image_at before (end_of_trail before)) → NoLog (image_at before (end_of_trail before))
       → Headline for_now (EachReply false) (causes_of words bytes faults_before faults_after) script before old new history ending
-  pub headline_alone : (first : Image) → old.told ≡ TellsContents first → Sound first → HeadlineAlone for_now (causes_of words bytes faults_before faults_after) script first old new history ending
+  pub headline_alone : (first : Image) → old.told ≡ TellsContents first → Sound first → NoLog first → HeadlineAlone for_now (causes_of words bytes faults_before faults_after) script first old new history ending
   -- over any world the two parts of it that speak of no store
   pub served : EachOnceInOrder for_now script history ending
   pub status : StatusHasCause for_now (causes_of words bytes faults_before faults_after) old new history ending
@@ -127,7 +142,7 @@ pub record RunsScript {A : Type 0} (words : List A) (left after : Option Text) (
   -- no command is an operation
   pub no_operations : AllByRecursion (λ (e : Entry). e.operation ≡ 0) history
 
--- Without words, with a script in the grammar that fits, and where no count rose, the script is run to its end unless memory is short.
-abbrev pub Completes : {A : Type 0} → List A → Option Text → ℕ → ℕ → Outside → Outside → RunStatus → Type 0
-Completes words left faults_before faults_after old new ending = (bytes : Text) (script : List Asked) → words ≡ [] → left ≡ Some bytes → IsScript bytes script → length bytes ≤ script_limit
+-- With accepted words, with a script in the grammar that fits, and where no count rose, the script is run to its end unless memory is short or the stores name an unknown location.
+abbrev pub Completes : List Text → Option Text → ℕ → ℕ → Outside → Outside → RunStatus → Type 0
+Completes words left faults_before faults_after old new ending = (bytes : Text) (script : List Asked) → IsAccepted Ctl options_built words → left ≡ Some bytes → IsScript Ctl built bytes script → length bytes ≤ script_limit
     → (Rose faults_before faults_after → ⊥) → (Rose old.sink_faults new.sink_faults → ⊥) → (StoreRoseBy 1 old new → ⊥) → is_complete ending ≡ true

@@ -1,14 +1,16 @@
 //! The commands of a script, one after the other.
-ghost use Rattle.std.specs.Prelude.{◌≡◌, true, []};
+ghost use Rattle.std.specs.Prelude.{◌≡◌, ◌≤◌, true, [], None};
 ghost use Rattle.std.specs.List.{AllByRecursion};
 ghost use Rattle.map_ops.specs.Planning.{is_planned};
+ghost use Rattle.manager_core.specs.Answering.{IsCopy};
+ghost use Rattle.manager_core.specs.Cores.{HasRoom};
 ghost use Rattle.plain_model.specs.Headline.{StatusCause};
 ghost use Rattle.plain_model.specs.declared.commands.Asked.{Asked};
 ghost use Rattle.script_shell.specs.Stops.{stop_of, refuses};
 ghost use Rattle.script_shell.specs.Promises.{Runs, for_now, no_causes, is_of_commands};
 
-use cell_world::outside::{World, WorldError};
-use manager_core::manager::{Core, Outcome};
+use cell_world::outside::World;
+use manager_core::manager::{Core, Event, Outcome, StopCause};
 use plain_model::commands::Asked;
 use plain_model::finish::RunStatus;
 use plain_model::replies::Sort;
@@ -22,9 +24,10 @@ fn stopped(outcome: Outcome) -> Option<RunStatus>
         Outcome::Ended(Sort::Fault) => Some(RunStatus::StoreFault),
         Outcome::Ended(Sort::Memory) => Some(RunStatus::Memory),
         Outcome::Ended(Sort::Good | Sort::Refused) => None,
-        Outcome::Unasked => Some(RunStatus::Memory),
-        Outcome::Unwritten(WorldError::Failed) => Some(RunStatus::WriteFault),
-        Outcome::Unwritten(WorldError::Memory) => Some(RunStatus::Memory),
+        Outcome::Stopped(StopCause::Sink) => Some(RunStatus::WriteFault),
+        Outcome::Stopped(StopCause::Memory) => Some(RunStatus::Memory),
+        Outcome::Stopped(StopCause::Store) => Some(RunStatus::StoreFault),
+        Outcome::Going(_) => None,
     }
 }
 
@@ -37,15 +40,19 @@ fn was_refused(outcome: Outcome) -> bool
 
 /// Asks the commands in order, and says how the run ended.
 pub fn run_commands<W: World>(alloc: Global, core: &mut Core<W>, script: Vec<Asked>) -> RunStatus
-    requires first { core.old.history ≡ [] }
-    requires planned { AllByRecursion (λ (asked : Asked). is_planned asked.command ≡ true) script.items }
-    ensures runs { Runs script.items (W.outside core.old.world) (W.outside core.new.world) core.new.history result }
-    ensures cause { StatusCause for_now no_causes (W.outside core.old.world) (W.outside core.new.world) core.new.history result }
+    requires first { core.old.journal.entries ≡ [] }
+    requires goes { core.old.stop ≡ None }
+    requires room { HasRoom core.old.journal core.old.stop }
+    requires copy { IsCopy core.old.known (W.outside core.old.world).told }
+    requires one_session { core.old.sessions ≡ 1 }
+    requires planned { AllByRecursion (λ (asked : Asked). (is_planned asked.command ≡ true) × (asked.session ≡ 1)) script.items }
+    ensures runs { Runs script.items (W.outside core.old.world) (W.outside core.new.world) core.new.journal.entries result }
+    ensures cause { StatusCause for_now no_causes (W.outside core.old.world) (W.outside core.new.world) core.new.journal.entries result }
     ensures of_commands { is_of_commands result ≡ true }
 {
     let mut refused = false;
     for asked in script {
-        let outcome = core.ask(alloc, asked);
+        let outcome = core.event(alloc, asked.session, Event::Ask(asked.command), false);
         if let Some(status) = stopped(outcome) {
             return status;
         }

@@ -130,7 +130,7 @@ fn each_end_has_its_status_and_its_line(rt: HostRuntime) {
         all(b"map m range int\nmap n\n"),
         with_room(alloc, 1000),
     );
-    assert!(rt; is(&faulty, 2, b"", b"shardctl: bad script line 2: not-built\n"));
+    assert!(rt; is(&faulty, 2, b"", b"shardctl: bad script line 2: bad-count\n"));
 }
 
 #[test]
@@ -272,10 +272,6 @@ fn each_reason_is_told_in_one_line(rt: HostRuntime) -> Result<(), Fail> {
         (
             Reason::BadWord(2),
             b"shardctl: bad script line 7: bad-word 2\n",
-        ),
-        (
-            Reason::NotBuilt,
-            b"shardctl: bad script line 7: not-built\n",
         ),
     ] {
         assert!(rt; tells(rt.alloc(), RunStatus::BadScript(7, reason), text)?);

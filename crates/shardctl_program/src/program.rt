@@ -1,13 +1,17 @@
 //! The program over any words, input and output.
-ghost use Rattle.std.specs.Prelude.{◌≡◌, IfOk, []};
+ghost use Rattle.std.specs.Prelude.{◌≡◌, IfOk, [], map};
+ghost use Rattle.std.specs.String.{string_bytes};
 ghost use Rattle.cell_world.specs.Images.{empty_image};
 ghost use Rattle.script_lang.specs.Endings.{exit_status};
 ghost use Rattle.world_memory.specs.Memory.{outside_of};
 ghost use Rattle.world_memory.specs.Told.{fresh};
+ghost use Rattle.shardctl_program.specs.Worlds.{IsWorldOf};
 
 use cell_world::memory::Memory;
 use plain_model::finish::RunStatus;
+use script_lang::command_line::{WordsFault, read_words};
 use script_lang::endings::{exit_number, standard_error_line};
+use script_lang::programs::Program;
 use script_shell::shell::run_script;
 use script_shell::std_source::{StdSource, SteadyRead};
 use std::alloc::Global;
@@ -21,6 +25,17 @@ pub fn empty_world(alloc: Global) -> Result<MemoryWorld, Memory>
     MemoryWorld::new(alloc, &[])
 }
 
+/// A world with the locations that the words name, in which nothing happened yet; without locations where the words are bad.
+pub fn world_of(alloc: Global, words: &Vec<String>) -> Result<MemoryWorld, Memory>
+    ensures { IfOk result (IsWorldOf (map string_bytes words.now.items)) }
+{
+    match read_words(alloc, words, Program::Ctl) {
+        Ok(words) => MemoryWorld::new(alloc, words.locations.as_slice()),
+        Err(WordsFault::At(_)) => empty_world(alloc),
+        Err(WordsFault::Memory) => Err(Memory),
+    }
+}
+
 /// Runs a script over stores in memory, and then writes what it wrote.
 pub fn run<I: SteadyRead + Drop, O: Write>(
     alloc: Global,
@@ -28,7 +43,7 @@ pub fn run<I: SteadyRead + Drop, O: Write>(
     input: I,
     output: &mut O,
 ) -> RunStatus {
-    let Ok(world) = empty_world(alloc) else {
+    let Ok(world) = world_of(alloc, words) else {
         return RunStatus::Memory;
     };
     let mut source = StdSource::new(input);

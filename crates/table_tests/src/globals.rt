@@ -8,15 +8,16 @@ use cell_world::operations::Piece;
 use cell_world::outside::World;
 use cell_world::spans::{High, Span};
 use global_tables::counts::is_full;
+use global_tables::faults::StepFault;
 use global_tables::groups::Group;
 use global_tables::known::KnownTables;
 use global_tables::lists::{log_rows, pieces_of, shards_of};
-use global_tables::lookups::{counters, piece_at, site_state};
+use global_tables::lookups::{counters, job_row, log_row, piece_at, site_state};
 use std::alloc::Global;
 use std::test::Fail;
 use world_memory::world::MemoryWorld;
 
-fn name(bytes: &[u8]) -> Result<Name, Fail> {
+pub(crate) fn name(bytes: &[u8]) -> Result<Name, Fail> {
     Ok(Name::read(bytes).ok_or("a name")?)
 }
 
@@ -194,6 +195,32 @@ fn what_is_absent(rt: HostRuntime) -> Result<(), Fail> {
     assert!(rt; next.operation == 1 && next.job == 1);
     let state = site_state(rt.alloc(), &mut world, &here()?)?;
     assert!(rt; state == SiteState::Attached);
+    Ok(())
+}
+
+/// Whether an operation of this number is in the log.
+fn has_op(alloc: Global, world: &mut MemoryWorld, number: u64) -> Result<bool, StepFault> {
+    match log_row(alloc, world, number) {
+        Ok(op) => Ok(op.is_some()),
+        Err(fault) => Err(fault),
+    }
+}
+
+/// Whether a job of this number stands.
+fn has_job(alloc: Global, world: &mut MemoryWorld, number: u32) -> Result<bool, StepFault> {
+    match job_row(alloc, world, number) {
+        Ok(job) => Ok(job.is_some()),
+        Err(fault) => Err(fault),
+    }
+}
+
+#[test]
+fn operations_and_jobs_that_are_absent(rt: HostRuntime) -> Result<(), Fail> {
+    let mut world = three_maps(rt.alloc())?;
+    assert!(rt; !has_op(rt.alloc(), &mut world, 0)?);
+    assert!(rt; !has_op(rt.alloc(), &mut world, u64::MAX)?);
+    assert!(rt; !has_job(rt.alloc(), &mut world, 0)?);
+    assert!(rt; !has_job(rt.alloc(), &mut world, u32::MAX)?);
     Ok(())
 }
 

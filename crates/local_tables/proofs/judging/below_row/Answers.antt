@@ -1,4 +1,4 @@
-use Rattle.std.proofs.Common.{◌≡◌, ◌≤◌, arith}
+use Rattle.std.proofs.Common.{arith}
 use Rattle.local_tables.proofs.BelowRows.{number_below, key_below_row, lowest_row}
 use Rattle.local_tables.proofs.judging.below_row.Goals as goal
 

@@ -1,4 +1,4 @@
-use Rattle.std.proofs.Common.{◌≡◌, ◌++◌, sym, ◌∙◌, append_assoc, codes}
+use Rattle.std.proofs.Common.{◌++◌, ◌∙◌, append_assoc, codes}
 use Rattle.cell_world.specs.KeyPrinting.{hex_text}
 use Rattle.key_space.proofs.HexPrinting.{encoded}
 use Rattle.script_lang.proofs.WritingLaws.{as_told, all_bytes}

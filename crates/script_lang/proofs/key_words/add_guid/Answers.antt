@@ -1,4 +1,4 @@
-use Rattle.std.proofs.Common.{◌≡◌, ◌++◌, ap, ◌∙◌}
+use Rattle.std.proofs.Common.{◌++◌, ap, ◌∙◌}
 use Rattle.uuid.specs.Text.{hyphenated_text, lower}
 use Rattle.key_space.proofs.HexPrinting.{uuid_prints}
 use Rattle.script_lang.proofs.WritingLaws.{as_told, all_bytes}

@@ -1,4 +1,4 @@
-use Rattle.std.proofs.Common.{◌≡◌, ◌++◌, sym, ap, ◌∙◌}
+use Rattle.std.proofs.Common.{◌++◌, sym, ap, ◌∙◌}
 use Rattle.cell_world.specs.KeyPrinting.{key_text, guid_text, guid_unformed}
 use Rattle.script_lang.proofs.WritingLaws.{as_told, guid_key}
 use Rattle.script_lang.proofs.key_words.add_key.Goals as goal

@@ -1,4 +1,4 @@
-use Rattle.std.proofs.Common.{◌≡◌, ◌+◌, ◌≤◌, length}
+use Rattle.std.proofs.Common.{◌+◌, ◌≤◌, length}
 use Rattle.script_lang.proofs.ScriptLaws.{SoFar}
 use Rattle.script_lang.proofs.scripts.read_lines.Given as goal
 

@@ -1,5 +1,4 @@
 use Rattle.std.proofs.Common.{◌≡◌, Some, sym, ap, arith, rules, ◌∙◌}
-use Rattle.std.specs.Prelude.{unwrap_or}
 use Rattle.std.specs.Int.{from_be_bytes, w128}
 use Rattle.std.proofs.lemmas.Result.{IfOk-at_ok}
 use Rattle.uuid.specs.Text.{parsed}

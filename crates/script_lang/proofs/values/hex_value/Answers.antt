@@ -1,4 +1,4 @@
-use Rattle.std.proofs.Common.{◌≡◌, true≢false, sym, inl, inr, ◌∙◌}
+use Rattle.std.proofs.Common.{true≢false, sym, inl, inr, ◌∙◌}
 use Rattle.script_lang.proofs.HexLaws.{decoded, not_decoded}
 use Rattle.script_lang.proofs.values.hex_value.Goals as goal
 

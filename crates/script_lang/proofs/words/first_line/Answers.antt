@@ -1,4 +1,4 @@
-use Rattle.std.proofs.Common.{◌≡◌, length, take, drop, sym, ap, ◌∙◌, arith, rules, length-drop, ◌∷◌, ◌+◌, ◌-◌, List, ℕ, []}
+use Rattle.std.proofs.Common.{◌≡◌, length, take, drop, sym, ap, ◌∙◌, arith, rules, length-drop, ◌∷◌, ◌+◌, ◌-◌, []}
 use Rattle.std.specs.Str.Lines.{lines}
 use Rattle.std.proofs.lemmas.List.{take_all, drop_all}
 use Rattle.script_lang.proofs.LineLaws.{first_of_lines, last_of_lines}

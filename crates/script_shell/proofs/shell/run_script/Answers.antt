@@ -1,55 +1,36 @@
-use Rattle.std.proofs.Common.{ap, subst}
-use Rattle.std.specs.Prelude.{Err}
-use Rattle.script_shell.specs.Scripts.{IsScript}
-use Rattle.plain_model.specs.declared.finish.Reason.TheVariants.{NotBuilt}
-use Rattle.plain_model.specs.declared.finish.RunStatus.TheVariants as status
-use Rattle.script_shell.proofs.CallLaws.{no_words, some_words, bad_words, read_fault, too_long, no_memory, bad_script, commands_run, with_status, faulty_at, completes}
-use Rattle.script_shell.proofs.ScriptLaws.{script_is_planned}
+use Rattle.std.proofs.Common.{◌≡◌, [], map, subst, ap, sym, ◌∙◌}
+use Rattle.std.specs.String.{string_bytes}
+use Rattle.std.specs.List.{AllByRecursion}
+use Rattle.script_shell.specs.Promises.{Runs, RunsScript}
+use Rattle.script_shell.proofs.CallLaws.{stops_reading, stops_opening, commands_run, completes}
+use Rattle.script_shell.proofs.ScriptLaws.{IsPlannedAsked, script_is_planned}
 use Rattle.script_shell.proofs.shell.run_script.Goals as goal
 
-pub returns-then-not-is_empty-clause-promises : goal.returns-then-not-is_empty-clause-promises
-returns-then-not-is_empty-clause-promises g c =
-    with_status _ _ _ _ _ _ _ _ (status.BadWords 1) c.unstarted.ensures.status
-    (bad_words _ _ _ _ _ c.unstarted.ensures.history (some_words _ _ _ c.is_empty.ensures c.if-not-is_empty.true c.args.words.now.ok.0))
+pub returns-in-Err-clause-promises : goal.returns-in-Err-clause-promises
+returns-in-Err-clause-promises g c = stops_reading _ _ _ _ _ _ _ _ c.in-Err.status c.unstarted.ensures.status c.unstarted.ensures.history c.in-Err.ensures.err
 
-pub returns-in-Err-Fault-clause-promises : goal.returns-in-Err-Fault-clause-promises
-returns-in-Err-Fault-clause-promises g c =
-    with_status _ _ _ _ _ _ _ _ status.ReadFault c.unstarted-in-Err-Fault.ensures.status
-    (read_fault _ _ _ _ _ c.in-Err-Fault.ensures.falls _ _ c.unstarted-in-Err-Fault.ensures.history (no_words _ _ _ c.is_empty.ensures c.if-not-is_empty.false c.args.words.now.ok.0)
-    (c.in-Err-Fault.ensures.fault (ap Err c.in-Err-Fault.field-0-is)) (c.in-Err-Fault.ensures.in_time (ap Err c.in-Err-Fault.field-0-is)))
+pub returns-in-Err-clause-completes : goal.returns-in-Err-clause-completes
+returns-in-Err-clause-completes g c = completes _ _ _ _ _ _ _ _ _ (returns-in-Err-clause-promises g c)
 
-pub returns-in-Err-TooLong-clause-promises : goal.returns-in-Err-TooLong-clause-promises
-returns-in-Err-TooLong-clause-promises g c =
-    with_status _ _ _ _ _ _ _ _ status.TooLong c.unstarted-in-Err-TooLong.ensures.status
-    (too_long _ _ _ _ _ c.in-Err-TooLong.ensures.falls _ _ c.unstarted-in-Err-TooLong.ensures.history (no_words _ _ _ c.is_empty.ensures c.if-not-is_empty.false c.args.words.now.ok.0)
-    (c.in-Err-TooLong.ensures.long (ap Err c.in-Err-TooLong.field-0-is)))
+pub returns-in-Err-start-clause-promises : goal.returns-in-Err-start-clause-promises
+returns-in-Err-start-clause-promises g c =
+    stops_opening _ _ _ _ _ c.in-Ok.script.lines c.in-Ok.ensures.ok _ _ _ c.in-Err-start.fault _ (c.unstarted-in-Err-start.ensures.status ∙ c.unopened.ensures) c.unstarted-in-Err-start.ensures.history
+    c.in-Err-start.ensures.fault c.in-Err-start.ensures.handed_back c.in-Err-start.ensures.fault_later
 
-pub returns-in-Err-Memory-clause-promises : goal.returns-in-Err-Memory-clause-promises
-returns-in-Err-Memory-clause-promises g c =
-    with_status _ _ _ _ _ _ _ _ status.Memory c.unstarted-in-Err-Memory.ensures.status
-    (no_memory _ _ _ _ _ c.in-Err-Memory.ensures.falls _ _ c.unstarted-in-Err-Memory.ensures.history (no_words _ _ _ c.is_empty.ensures c.if-not-is_empty.false c.args.words.now.ok.0))
+pub returns-in-Err-start-clause-completes : goal.returns-in-Err-start-clause-completes
+returns-in-Err-start-clause-completes g c = completes _ _ _ _ _ _ _ _ _ (returns-in-Err-start-clause-promises g c)
 
-pub returns-in-Err-Faulty-clause-promises : goal.returns-in-Err-Faulty-clause-promises
-returns-in-Err-Faulty-clause-promises g c =
-    with_status _ _ _ _ _ _ _ _ (status.BadScript c.in-Err-Faulty.line NotBuilt) c.unstarted-in-Err-Faulty.ensures.status
-    (bad_script _ _ _ _ _ c.in-Ok.ensures.falls _ _ c.unstarted-in-Err-Faulty.ensures.history (no_words _ _ _ c.is_empty.ensures c.if-not-is_empty.false c.args.words.now.ok.0)
-    c.in-Ok.bytes.items c.in-Err-Faulty.line c.in-Ok.ensures.all c.in-Ok.ensures.drained c.in-Ok.ensures.short
-    (faulty_at c.in-Ok.bytes.items c.deref.result.now c.in-Err-Faulty.field-0 c.in-Err-Faulty.line c.deref.ensures.value c.in-Err-Faulty.field-0-is c.in-Err-Faulty.ensures.fault))
-
-pub returns-in-Err-Memory-read_script-clause-promises :
-    goal.returns-in-Err-Memory-read_script-clause-promises
-returns-in-Err-Memory-read_script-clause-promises g c =
-    with_status _ _ _ _ _ _ _ _ status.Memory c.unstarted-in-Err-Memory-read_script.ensures.status
-    (no_memory _ _ _ _ _ c.in-Ok.ensures.falls _ _ c.unstarted-in-Err-Memory-read_script.ensures.history (no_words _ _ _ c.is_empty.ensures c.if-not-is_empty.false c.args.words.now.ok.0))
+pub run_commands-status-requires-clause-planned : goal.run_commands-status-requires-clause-planned
+run_commands-status-requires-clause-planned g c = subst (AllByRecursion IsPlannedAsked) (sym c.into_vec.ensures) (script_is_planned c.in-Ok.ensures.ok.bytes c.in-Ok.script.lines c.in-Ok.ensures.ok.grammar)
 
 pub returns-clause-promises : goal.returns-clause-promises
 returns-clause-promises g c =
-    commands_run _ _ _ _ _ _ _ _ _ c.in-Ok.bytes.items c.in-Ok-read_script.script.items (no_words _ _ _ c.is_empty.ensures c.if-not-is_empty.false c.args.words.now.ok.0)
-    c.in-Ok.ensures.all c.in-Ok.ensures.drained c.in-Ok.ensures.short c.in-Ok.ensures.falls (subst (λ text. IsScript text c.in-Ok-read_script.script.items) c.deref.ensures.value c.in-Ok-read_script.ensures.script)
-    c.run_commands-status.ensures.runs c.run_commands-status.ensures.cause c.run_commands-status.ensures.of_commands
+    let run = c.run_commands-status in
+    let runs = commands_run (map string_bytes c.args.words.now.items) _ _ _ _ c.in-Ok.script.lines c.in-Ok.ensures.ok (g.W.World.outside c.args.world) (g.W.World.outside c.in-Ok-start.core.world) (g.W.World.outside run.new.core.world) run.new.core.journal.entries run.result
+    c.in-Ok-start.ensures.told c.in-Ok-start.ensures.later c.in-Ok-start.ensures.all_known
+    (subst (λ script. Runs script (g.W.World.outside c.in-Ok-start.core.world) (g.W.World.outside run.new.core.world) run.new.core.journal.entries run.result) c.into_vec.ensures run.ensures.runs) run.ensures.cause run.ensures.of_commands in
+    subst (λ w. RunsScript (map string_bytes c.args.words.now.items) (g.S.Source.left c.args.source.now) (g.S.Source.left c.script_of.new.source) (g.S.Source.faults c.args.source.now) (g.S.Source.faults c.script_of.new.source) (g.W.World.outside c.args.world) (g.W.World.outside w) c.finish-history.result.0 run.result) (sym c.finish-history.ensures.world)
+    (subst (λ h. RunsScript (map string_bytes c.args.words.now.items) (g.S.Source.left c.args.source.now) (g.S.Source.left c.script_of.new.source) (g.S.Source.faults c.args.source.now) (g.S.Source.faults c.script_of.new.source) (g.W.World.outside c.args.world) (g.W.World.outside run.new.core.world) h run.result) (sym c.finish-history.ensures.history) runs)
 
-pub returns-in-Err-Faulty-clause-completes : goal.returns-in-Err-Faulty-clause-completes
-returns-in-Err-Faulty-clause-completes g c = completes _ _ _ _ _ _ _ _ _ (returns-in-Err-Faulty-clause-promises g c)
-
-pub run_commands-status-requires-clause-planned : goal.run_commands-status-requires-clause-planned
-run_commands-status-requires-clause-planned g c = script_is_planned _ _ c.in-Ok-read_script.ensures.script
+pub returns-clause-completes : goal.returns-clause-completes
+returns-clause-completes g c = completes _ _ _ _ _ _ _ _ _ (returns-clause-promises g c)

@@ -1,0 +1,91 @@
+-- What an event does.
+use Rattle.std.specs.Prelude.{◌≡◌, ◌⊎◌, ℕ, Bool, true, List, [], ◌∷◌, ◌++◌, Option, Some, None, if◌then◌else◌}
+use Rattle.cell_world.specs.Texts.{Text}
+use Rattle.cell_world.specs.Counts.{Rose}
+use Rattle.cell_world.specs.Images.{Image}
+use Rattle.cell_world.specs.Plain.{nobody}
+use Rattle.cell_world.specs.Outside.{Outside, Told, IfContents}
+use Rattle.global_tables.specs.Known.{Known}
+use Rattle.map_ops.specs.Planning.{is_planned}
+use Rattle.plain_model.specs.declared.commands.Command.{Command}
+use Rattle.plain_model.specs.declared.history.Entry.{Entry}
+use Rattle.plain_model.specs.declared.replies.Reply.{Reply}
+use Rattle.plain_model.specs.declared.replies.Reply.TheVariants as reply
+use Rattle.plain_model.specs.declared.replies.Sort.TheVariants as sort
+use Rattle.plain_model.specs.Refusing.{refusal}
+use Rattle.plain_model.specs.Summary.{sort_of}
+use Rattle.plain_model.specs.ShortCommands.{standing_with}
+use Rattle.plain_model.specs.Written.{EachReply}
+use Rattle.session_laws.specs.Doing.{Doing, Resting}
+use Rattle.session_laws.specs.Contract.{Seen, at_rest, KeepsCore, KeepsCoreTo}
+use Rattle.manager_core.specs.declared.manager.Event.{Event}
+use Rattle.manager_core.specs.declared.manager.Event.TheVariants as event
+use Rattle.manager_core.specs.declared.manager.Outcome.{Outcome}
+use Rattle.manager_core.specs.declared.manager.Outcome.TheVariants.{Going, Ended, Stopped}
+use Rattle.manager_core.specs.declared.manager.StopCause.{StopCause}
+use Rattle.manager_core.specs.declared.manager.StopCause.TheVariants as cause
+use Rattle.manager_core.specs.Answering.{Relies, RefusesExactly}
+use Rattle.manager_core.specs.Cores.{IsReady}
+
+-- ---- which event may come
+
+-- A session that rests may ask a command, and one that has something going may go on. For now every session rests between two events.
+abbrev pub MayCome : Event → Type 0
+MayCome (event.Ask c) = is_planned c ≡ true
+MayCome event.Go = ⊥
+
+-- ---- an entry
+
+-- The session's command was answered so: its entry stands at the end of the history.
+pub record IsEntered (session : ℕ) (c : Command) (r : Reply) (before after : List Entry) : Type 0 where
+  pub entry : Entry
+  pub of_session : entry.session ≡ session
+  pub command : entry.command ≡ c
+  pub answered : entry.reply ≡ Some r
+  pub operation : entry.operation ≡ 0  -- the command is no operation
+  pub added : after ≡ before ++ entry ∷ []  -- it is the only new one
+
+-- ---- what an event comes to
+
+-- the parts of a core and its outside, before an event or after one
+pub record Parts : Type 0 where
+  pub outside : Outside
+  pub history : List Entry  -- in order
+  pub known : Known  -- the copy of the tables
+  pub stop : Option StopCause  -- why it takes no more events
+
+-- where no operation was logged at the start
+abbrev pub ReadyAt : Parts → Type 0
+ReadyAt p = IsReady p.known p.stop p.outside.told
+
+-- The run goes on with the entry, and this is still to be written.
+pub record Enters (tagged : Bool) (session : ℕ) (c : Command) (r : Reply) (old new : Parts) (rest : Text) : Type 0 where
+  pub entered : IsEntered session c r old.history new.history
+  -- whatever the core was on its trail, it goes on so
+  pub keeps : ReadyAt old → KeepsCore (EachReply tagged) old.outside.told (at_rest old.history) new.outside.told (at_rest new.history) rest
+  -- and by contents alone
+  pub keeps_to : ReadyAt old → KeepsCoreTo old.outside.told (at_rest old.history) new.outside.told (at_rest new.history)
+  -- it is refused exactly where the plain state before the entry refuses it so
+  pub refuses : old.stop ≡ None → IfContents old.outside.told (λ image. Relies old.known image → RefusesExactly (refusal (standing_with image nobody) session c) r)
+  -- a fault has its cause: the count of the global store rose
+  pub fault : r ≡ reply.Fault → Rose (old.outside.faults_at 0) (new.outside.faults_at 0)
+
+-- With `memory` or, for now, `fault` the core stops.
+abbrev pub stop_after : Reply → Option StopCause
+stop_after reply.Memory = Some cause.Memory
+stop_after reply.Fault = Some cause.Store
+stop_after other = None
+
+-- Answered and written; or the entry stands and its lines aren't all written, and the core stops.
+abbrev pub Comes : Bool → ℕ → Command → Parts → Parts → Outcome → Type 0
+Comes tagged session c old new (Going number) = ⊥
+Comes tagged session c old new (Ended sort) = (r : Reply) × (sort ≡ sort_of r) × (new.stop ≡ stop_after r) × Enters tagged session c r old new []
+Comes tagged session c old new (Stopped cause.Sink) = (r : Reply) × (new.stop ≡ Some cause.Sink) × Rose old.outside.sink_faults new.outside.sink_faults × ((rest : Text) × Enters tagged session c r old new rest)
+Comes tagged session c old new (Stopped cause.Memory) = (r : Reply) × (new.stop ≡ Some cause.Memory) × ((rest : Text) × Enters tagged session c r old new rest)
+Comes tagged session c old new (Stopped cause.Store) = ⊥
+
+-- A core that stopped answers so again, and does nothing.
+abbrev pub ComesAfter : Option StopCause → Bool → ℕ → Event → Parts → Parts → Outcome → Type 0
+ComesAfter (Some why) tagged session e old new outcome = (outcome ≡ Stopped why) × (new ≡ old)
+ComesAfter None tagged session (event.Ask c) old new outcome = Comes tagged session c old new outcome
+ComesAfter None tagged session event.Go old new outcome = ⊥

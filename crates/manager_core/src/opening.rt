@@ -1,0 +1,157 @@
+//! How a core begins, what it tells of itself, and how it ends.
+ghost use Rattle.std.specs.Prelude.{◌≡◌, ◌&&◌, ◌==◌, [], None, length, filter, is_some, false, IfOk, IfErr};
+ghost use Rattle.cell_world.specs.Counts.{Rose};
+ghost use Rattle.cell_world.specs.Images.{global};
+ghost use Rattle.cell_world.specs.Outside.{IfContents, IsLater};
+ghost use Rattle.plain_model.specs.Headline.{answered_by};
+ghost use Rattle.plain_model.specs.declared.history.Entry.{Entry};
+ghost use Rattle.site_names.specs.Named.{TellsFirst};
+ghost use Rattle.manager_core.specs.Answering.{IsCopy};
+ghost use Rattle.manager_core.specs.Cores.{HasRoom, FaultHasCause};
+
+use crate::manager::Core;
+use cell_world::locations::Location;
+use cell_world::memory::Memory;
+use cell_world::outside::World;
+use global_tables::faults::StepFault;
+use global_tables::known::KnownTables;
+use plain_model::history::{Entry, History, Journal};
+use site_names::unknown::first_unknown;
+use std::alloc::Global;
+
+/// Why a core can't begin. The stores are as they were.
+#[derive(Clone, Copy, PartialEq, Eq)]
+pub enum StartFault {
+    /// The global store couldn't be read.
+    Store,
+    /// Want of memory.
+    Memory,
+    /// The first location in cell order that the global store names and the world doesn't know.
+    UnknownLocation(Location),
+}
+
+/// How a core ended. For now nothing is left to be settled at its end.
+#[derive(Clone, Copy, Debug, PartialEq, Eq)]
+pub enum Tail {
+    /// Nothing of an operation that was committed is left.
+    Settled,
+}
+
+/// What a core tells of a session.
+#[derive(Clone, Copy, Debug, PartialEq, Eq)]
+pub struct Standing {
+    /// How many entries with a reply it has.
+    pub answered: u64,
+    /// Whether it has something going.
+    pub going: bool,
+}
+
+impl From<StepFault> for StartFault {
+    ghost use Rattle.global_tables.specs.declared.faults.StepFault.TheVariants as step;
+    ghost use Rattle.manager_core.specs.declared.opening.StartFault.TheVariants as start;
+
+    ghost from_gives = { λ from to. (from ≡ step.Store → to ≡ start.Store) × (from ≡ step.Memory → to ≡ start.Memory) };
+
+    fn from(fault: StepFault) -> StartFault {
+        match fault {
+            StepFault::Store => StartFault::Store,
+            StepFault::Memory => StartFault::Memory,
+        }
+    }
+}
+
+/// Looks whether the world knows all locations that the global store names, and copies its tables.
+fn open_tables<W: World>(alloc: Global, world: &mut W) -> Result<KnownTables, StartFault>
+    ensures copy { IfOk result (λ known. IsCopy known (W.outside world.old).told) }
+    ensures all_known { IfOk result (λ known. IfContents (W.outside world.old).told (λ image. TellsFirst (global image) (W.outside world.old).locations None)) }
+    ensures fault { IfErr result (FaultHasCause (W.outside world.old) (W.outside world.new)) }
+    ensures told { (W.outside world.new).told ≡ (W.outside world.old).told }
+    ensures later { IsLater (W.outside world.old) (W.outside world.new) }
+{
+    match first_unknown(alloc, world)? {
+        Some(location) => Err(StartFault::UnknownLocation(location)),
+        None => Ok(KnownTables::read(alloc, world)?),
+    }
+}
+
+impl<W: World> Core<W> {
+    /// A core over a world, for sessions with the numbers from 1 to this one, at most 16. Nothing is changed.
+    ///
+    /// The fault hands the world back: `Store`, the global store couldn't be read; `UnknownLocation`, it names a location
+    /// that the world doesn't know; `Memory`, want of memory.
+    pub fn start(alloc: Global, world: W, sessions: u32) -> Result<Core<W>, (StartFault, W)>
+        ensures history { IfOk result (λ core. core.journal.entries ≡ []) }
+        ensures goes { IfOk result (λ core. core.stop ≡ None) }
+        ensures sessions { IfOk result (λ core. core.sessions ≡ sessions) }
+        ensures room { IfOk result (λ core. HasRoom core.journal core.stop) }
+        // the copy of the tables is what the global cells say, and all locations that they name are known
+        ensures copy { IfOk result (λ core. IsCopy core.known (W.outside core.world).told) }
+        ensures all_known { IfOk result (λ core. IfContents (W.outside world).told (λ image. TellsFirst (global image) (W.outside world).locations None)) }
+        ensures told { IfOk result (λ core. (W.outside core.world).told ≡ (W.outside world).told) }
+        ensures later { IfOk result (λ core. IsLater (W.outside world) (W.outside core.world)) }
+        ensures fault { IfErr result (λ stop. FaultHasCause (W.outside world) (W.outside stop.1) stop.0) }
+        ensures handed_back { IfErr result (λ stop. (W.outside stop.1).told ≡ (W.outside world).told) }
+        ensures fault_later { IfErr result (λ stop. IsLater (W.outside world) (W.outside stop.1)) }
+    {
+        let mut world = world;
+        let known = match open_tables(alloc, &mut world) {
+            Ok(known) => known,
+            Err(fault) => return Err((fault, world)),
+        };
+        let mut journal = Journal::new(alloc);
+        match journal.make_room(1) {
+            Ok(()) => Ok(Core {
+                world,
+                journal,
+                known,
+                sessions,
+                stop: None,
+            }),
+            Err(Memory) => Err((StartFault::Memory, world)),
+        }
+    }
+
+    /// The number of entries of its history. Takes no memory.
+    pub fn length(&self) -> u64
+        ensures { result ≡ length self.now.journal.entries }
+    {
+        self.journal.len() as u64
+    }
+
+    /// What it tells of a session. Takes no memory.
+    pub fn standing(&self, session: u32) -> Standing
+        ensures answered { result.answered ≡ length (answered_by session self.now.journal.entries) }
+        ensures going { result.going ≡ false }
+    {
+        Standing {
+            answered: answered(session, self.journal.as_slice()),
+            going: false,
+        }
+    }
+
+    /// The core ends: its history, and the world. Takes no memory.
+    pub fn finish(self) -> (History, Tail, W)
+        ensures history { result.0 ≡ self.journal.entries }
+        ensures tail { result.1 ≡ Tail.Settled }
+        ensures world { result.2 ≡ self.world }
+    {
+        let Core {
+            world,
+            journal,
+            known: _,
+            sessions: _,
+            stop: _,
+        } = self;
+        (journal.into_history(), Tail::Settled, world)
+    }
+}
+
+/// How many of the entries have a reply and are of the session.
+fn answered(session: u32, entries: &[Entry]) -> u64
+    ensures { result ≡ length (filter (λ (e : Entry). (e.session == session) && is_some e.reply) entries.now) }
+{
+    entries
+        .iter()
+        .filter(|entry| entry.session == session && entry.reply.is_some())
+        .count() as u64
+}

@@ -1,0 +1,10 @@
+use Rattle.map_ops.proofs.AskingLaws.{no_map_of_shards, answers_shards}
+use Rattle.map_ops.proofs.shards.plan_shards.Goals as goal
+
+pub returns-in_default-clause-plans : goal.returns-in_default-clause-plans
+returns-in_default-clause-plans g c = no_map_of_shards _ c.args.known.now c.args.name c.key_type_of.result c.key_type_of.ensures c.in_default.is
+
+pub returns-in-Ok-clause-plans : goal.returns-in-Ok-clause-plans
+returns-in-Ok-clause-plans g c =
+    answers_shards _ c.args.known.now c.args.name c.key_type_of.result c.key_type_of.ensures c.in-Some._type c.in-Some.is
+    c.in-Ok.locations.items c.from_vec.result c.from_vec.ensures c.in-Ok.ensures.found

@@ -1,6 +1,0 @@
-use Rattle.std.proofs.Common.{None}
-use Rattle.plain_map.proofs.LinkLaws.{link-update}
-use Rattle.plain_map.proofs.changes.drop_link.Goals as goal
-
-pub returns : goal.returns
-returns c = link-update c.args.links.now c.remove.new.self c.args.session c.args.number None c.remove.ensures.updates

@@ -1,0 +1,4 @@
+pub mod Contract
+pub mod Core
+pub mod Doing
+pub mod Needs
