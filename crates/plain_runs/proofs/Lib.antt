@@ -1,0 +1,2 @@
+pub mod PlainHeadlines
+pub mod PlainLaws
