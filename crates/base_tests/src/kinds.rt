@@ -97,6 +97,26 @@ fn log_cell(parts: &Parts) -> Cell
     })
 }
 
+/// A log cell with two mappings before and one after.
+fn log_cell_of_mappings(parts: &Parts) -> Cell
+    ensures { IsTrue (is_spelled result) }
+{
+    Cell::Log(Op {
+        number: 3,
+        map: parts.map,
+        hull: Span::Range(parts.key, High::Max),
+        olds: Pieces {
+            one: Some(piece(parts)),
+            two: Some(piece(parts)),
+        },
+        news: Pieces {
+            one: Some(piece(parts)),
+            two: None,
+        },
+        extra: Extra::None,
+    })
+}
+
 /// A job that copies.
 fn job(parts: &Parts) -> JobRow {
     JobRow {
@@ -217,6 +237,15 @@ fn rows_come_and_go_with_bytes_and_without(rt: HostRuntime) -> Result<(), Fail> 
         let key = key_of_kind(&parts, 10);
         assert!(rt; comes_and_goes(rt.alloc(), cell, &key)?, "{length} bytes");
     }
+    Ok(())
+}
+
+#[test]
+fn a_log_cell_of_mappings_comes_and_goes(rt: HostRuntime) -> Result<(), Fail> {
+    let parts = make_parts()?;
+    let cell = log_cell_of_mappings(&parts);
+    let key = key_of_kind(&parts, 5);
+    assert!(rt; comes_and_goes(rt.alloc(), cell, &key)?);
     Ok(())
 }
 

@@ -22,18 +22,6 @@ use Rattle.cell_world.specs.declared.operations.Reach.{Reach}
 use Rattle.map_ops.specs.Planning.{is_planned, NoneInWay}
 use Rattle.manager_core.specs.Answering.{NoLog, Relies, RefusesExactly, AnswersIn, AnswersAt, CommitsAt, AnswersShort, IsCopy, KeepsCopy}
 
--- what is planned here is short
-pub planned_is_short : (c : Command) → is_planned c ≡ true → is_short c ≡ true
-planned_is_short (command.Map name kind type) is = refl
-planned_is_short (command.Unmap name) is = refl
-planned_is_short (command.Shard name location) is = refl
-planned_is_short (command.Unshard name location) is = refl
-planned_is_short (command.Table name table) is = refl
-planned_is_short (command.Find name key) is = refl
-planned_is_short (command.List name) is = refl
-planned_is_short (command.Shards name) is = refl
-planned_is_short c is = absurd cc
-
 -- where no operation is logged none is in the way
 pub none_in_way : (image : Image) (reached : Reach) → NoLog image → NoneInWay image reached
 none_in_way image reached none op logged = let no_op : None ≡ Some op = sym (none op.number) ∙ logged in absurd cc

@@ -2,6 +2,5 @@
 #![tactic(auto)]
 
 mod answers;
-mod lines;
 pub mod manager;
 pub mod opening;

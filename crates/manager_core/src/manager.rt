@@ -10,13 +10,13 @@ ghost use Rattle.manager_core.specs.Cores.{IsReady, HasRoom};
 ghost use Rattle.manager_core.specs.Events.{MayCome, Comes, ComesAfter, Parts, ReadyAt, stop_after};
 
 use crate::answers::answer_in_room;
-use crate::lines::memory_line;
 use cell_world::items::Items;
 use cell_world::outside::{World, WorldError};
 use global_tables::known::KnownTables;
 use plain_model::commands::Command;
 use plain_model::history::{Entry, Journal};
 use plain_model::replies::{Reply, Sort};
+use script_lang::memory_lines::memory_line;
 use std::alloc::Global;
 
 /// What comes to a core.

@@ -1,5 +1,5 @@
 -- What a plan says.
-use Rattle.std.specs.Prelude.{◌≡◌, ℕ, Bool, true, false, Option, None, Result, Ok, Err, List, []}
+use Rattle.std.specs.Prelude.{◌≡◌, ℕ, Bool, true, false, ◌&&◌, not, Option, None, Result, Ok, Err, List, []}
 use Rattle.cell_world.specs.Images.{Image, global}
 use Rattle.cell_world.specs.Plain.{PlainState, Connections}
 use Rattle.cell_world.specs.Meaning.{meaning}
@@ -19,19 +19,17 @@ use Rattle.plain_model.specs.declared.replies.Reply.{Reply}
 use Rattle.plain_model.specs.declared.replies.Refusal.{Refusal}
 use Rattle.plain_model.specs.OnTrail.{logs_put, reach_of_command}
 use Rattle.plain_model.specs.Refusing.{Check, refusal}
-use Rattle.plain_model.specs.ShortCommands.{is_short_answer, is_short_refusal, standing_with, IsShortChange, IsShortAnswer, IsRefusedWith}
+use Rattle.plain_model.specs.ShortCommands.{is_short, is_short_answer, is_short_refusal, standing_with, IsShortChange, IsShortAnswer, IsRefusedWith}
+
+-- the short commands that aren't planned yet
+abbrev pub is_unbuilt : Command → Bool
+is_unbuilt (command.Lock name key token) = true
+is_unbuilt (command.Unlock name key token) = true
+is_unbuilt other = false
 
 -- the commands that are planned here
 abbrev pub is_planned : Command → Bool
-is_planned (command.Map name kind type) = true
-is_planned (command.Unmap name) = true
-is_planned (command.Shard name location) = true
-is_planned (command.Table name table) = true
-is_planned (command.Unshard name location) = true
-is_planned (command.Shards name) = true
-is_planned (command.Find name key) = true
-is_planned (command.List name) = true
-is_planned other = false
+is_planned c = is_short c && not (is_unbuilt c)
 
 -- ---- on an image
 

@@ -12,6 +12,7 @@ use Rattle.plain_model.specs.declared.replies.Refusal.{Refusal}
 use Rattle.plain_model.specs.declared.replies.Refusal.TheVariants as refused
 use Rattle.plain_model.specs.Refusing.{refusal}
 use Rattle.plain_model.specs.Steps.{plain_step, accepted, refused_or_done}
+use Rattle.plain_model.specs.ShortCommands.{is_short}
 use Rattle.plain_model.specs.JobSteps.{asked_number, asked_job}
 use Rattle.plain_model.specs.Timelines.{Past}
 use Rattle.plain_model.specs.Follows.{Follows, FollowsPlainly, takes_number}
@@ -31,6 +32,23 @@ step_alike c plain held s session = by (refusal s session c)
     by : (r : Option Refusal) → refused_or_done held s session c r ≡ refused_or_done holds_nothing s session c r
     by (Some r) = refl
     by None = accepted_alike c plain held s session
+
+-- a short command is one
+pub short_is_plain : (c : Command) → is_short c ≡ true → is_plain c ≡ true
+short_is_plain (command.Peek name key) short = absurd cc
+short_is_plain (command.Step number) short = absurd cc
+short_is_plain (command.Run number) short = absurd cc
+short_is_plain (command.Detach location) short = absurd cc
+short_is_plain (command.Attach location) short = absurd cc
+short_is_plain (command.Add name low high location) short = absurd cc
+short_is_plain (command.Addpoint name key location) short = absurd cc
+short_is_plain (command.Delete name key token) short = absurd cc
+short_is_plain (command.Offline name key token) short = absurd cc
+short_is_plain (command.Online name key token) short = absurd cc
+short_is_plain (command.Move name key location token) short = absurd cc
+short_is_plain (command.Split name key token) short = absurd cc
+short_is_plain (command.Merge name key token) short = absurd cc
+short_is_plain c short = refl
 
 -- it asks for no job
 no_job : (c : Command) → is_plain c ≡ true → (s : PlainState) → asked_job s c ≡ None

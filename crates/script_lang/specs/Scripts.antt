@@ -11,6 +11,7 @@ use Rattle.script_lang.specs.declared.programs.Program.{Program}
 use Rattle.script_lang.specs.declared.programs.Program.TheVariants.{Ctl, Mux}
 use Rattle.script_lang.specs.declared.script_lines.Said.{Said}
 use Rattle.script_lang.specs.declared.script_lines.Said.TheVariants as said
+use Rattle.script_lang.specs.declared.scripts.TheConstants.{BUILT}
 use Rattle.script_lang.specs.declared.scripts.ScriptFault.{ScriptFault}
 use Rattle.script_lang.specs.declared.scripts.ScriptFault.TheVariants as fault
 use Rattle.script_lang.specs.declared.verbs.Verb.{Verb}
@@ -20,9 +21,9 @@ use Rattle.script_lang.specs.Values.{Value, OfNumber}
 use Rattle.script_lang.specs.WordKinds as kind
 use Rattle.script_lang.specs.Words.{line_limit, is_line_byte, words}
 
--- the commands that are built so far
+-- the commands that are built so far, as the constant of src/scripts.rt lists them
 abbrev pub built : List Verb
-built = verb.Map ∷ verb.Unmap ∷ verb.Shard ∷ verb.Unshard ∷ verb.Table ∷ verb.Find ∷ verb.List ∷ verb.Shards ∷ []
+built = BUILT
 
 -- ---- one line
 

@@ -9,6 +9,7 @@ mod job_commands;
 mod key_words;
 mod map_commands;
 mod mapping_commands;
+pub mod memory_lines;
 mod numbers;
 pub mod programs;
 pub mod reading;

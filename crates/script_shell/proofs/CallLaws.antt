@@ -14,10 +14,13 @@ use Rattle.plain_model.specs.declared.finish.RunStatus.TheVariants as status
 use Rattle.plain_model.specs.declared.history.Entry.{Entry}
 use Rattle.plain_model.specs.Summary.{replies_of, is_memory}
 use Rattle.plain_model.specs.Written.{EachReply}
-use Rattle.plain_model.specs.Headline.{Causes, StatusCause, ComesByInput, ComesByOpening, LeavesUnknown, TellsUnknown, IsUnknown, IsFirstUnknown, KeepsToStatus, StatusHasCause, EachOnceInOrder, EndsAnswered, ends_by_opening, ends_by_reading, faults, did_nothing}
+use Rattle.plain_model.specs.Headline.{is_done, Causes, StatusCause, ComesByInput, ComesByOpening, LeavesUnknown, TellsUnknown, IsUnknown, IsFirstUnknown, KeepsToStatus, StatusHasCause, EachOnceInOrder, EndsAnswered, ends_by_opening, ends_by_reading, faults, did_nothing}
 use Rattle.plain_model.specs.RunSoFar.{HoldsOnTrail, HoldsByStates, resting}
 use Rattle.plain_model.proofs.RunSoFar.{keeps_none, contents_none}
 use Rattle.plain_model.proofs.RunsAreHeadlines.{holds_on_trail, holds_by_states, is_headline, is_headline_alone}
+use Rattle.plain_runs.specs.PlainRuns.{IsPlainRun}
+use Rattle.cell_world.specs.Sound.{Sound}
+use Rattle.manager_core.specs.Answering.{NoLog}
 use Rattle.site_names.specs.Named.{TellsFirst}
 use Rattle.manager_core.specs.Cores.{FaultHasCause}
 use Rattle.manager_core.specs.declared.opening.StartFault.{StartFault}
@@ -31,6 +34,8 @@ use Rattle.script_shell.specs.Promises.{Runs, RunsScript, IsRead, Completes, for
 use Rattle.script_shell.specs.Reading.{IsReadScript, StopsReading, unopened}
 use Rattle.script_shell.proofs.HistoryLaws.{in_order}
 use Rattle.script_lang.proofs.WholeScripts.{script_is_whole, one_fault}
+use Rattle.script_shell.proofs.PlainEnds.{runs_plainly}
+use Rattle.script_shell.proofs.ScriptLaws.{script_is_planned, script_is_plain}
 use Rattle.script_shell.proofs.UnknownLaws.{one_unknown}
 use Rattle.script_shell.proofs.WordLaws.{accepted_is_not_bad, one_bad_place}
 
@@ -164,7 +169,7 @@ served_nothing : (ending : RunStatus) → EachOnceInOrder for_now [] [] ending
 served_nothing ending = record { in_order = in_order [] [] [] refl [] tt (for_now.stops ending); all = λ is session. refl; all_after_fault = λ goes failed fault session. refl }
 
 -- a script of which nothing was asked
-served_none : (script : List Asked) (ending : RunStatus) → Rattle.plain_model.specs.Headline.is_done ending ≡ false → EachOnceInOrder for_now script [] ending
+served_none : (script : List Asked) (ending : RunStatus) → is_done ending ≡ false → EachOnceInOrder for_now script [] ending
 served_none script ending not_done = record {
   in_order = in_order script [] script refl [] tt (for_now.stops ending);
   all = λ is. let both : true ≡ false = sym is ∙ not_done in absurd cc;
@@ -186,7 +191,7 @@ module _ (words : List Text) (left after : Option Text) (faults_before faults_af
   }
 
   module _ (given : IfTold left bytes) (read : IsRead bytes script [] ending) (untouched : (place : ℕ) → ending ≡ status.BadWords place → (after ≡ left) × (faults_after ≡ faults_before)) (in_time : ending ≡ status.ReadFault → TookAtMost script_limit left after)
-      (drained : was_read ending ≡ true → after ≡ option_map (λ b. []) left) (source : faults_before ≤ faults_after) (handed_back : is_of_reading ending ≡ true → new ≡ old) (served : EachOnceInOrder for_now script [] ending)
+      (drained : was_read ending ≡ true → after ≡ option_map (λ b. []) left) (source : faults_before ≤ faults_after) (handed_back : is_of_reading ending ≡ true → new ≡ old) (not_done : is_done ending ≡ false) (served : EachOnceInOrder for_now script [] ending)
       (cause : StatusCause for_now causes old new [] ending) (input : ComesByInput causes ending) (opening : ComesByOpening old ending) where
     pub runs_nothing : RunsScript words left after faults_before faults_after old new [] ending
     runs_nothing = record {
@@ -211,6 +216,7 @@ module _ (words : List Text) (left after : Option Text) (faults_before faults_af
           served (status_nothing cause input opening);
       served = served;
       status = status_nothing cause input opening;
+      plain = λ done. let both : true ≡ false = sym done ∙ not_done in absurd cc;
       ends_with_fault = tt;
       no_operations = tt;
     }
@@ -222,8 +228,14 @@ stops_reading words left after faults_before faults_after o history found ending
     subst (λ s. RunsScript words left after faults_before faults_after o o history s) (sym is)
     (subst (λ h. RunsScript words left after faults_before faults_after o o h ending) (sym none)
     (runs_nothing words left after faults_before faults_after o o ending stops.bytes [] refl (later_same o) stops.given (unread (has_begun ending) stops.unbegun) stops.untouched stops.in_time stops.drained stops.source
-    (λ of_reading. refl) (served_nothing ending) (stops.cause o o) stops.by_input (λ location told. inr stops.before_opening)))
+    (λ of_reading. refl) (unbegun_not_done ending stops.unbegun) (served_nothing ending) (stops.cause o o) stops.by_input (λ location told. inr stops.before_opening)))
   where
+    unbegun_not_done : (ending : RunStatus) → has_begun ending ≡ false → is_done ending ≡ false
+    unbegun_not_done status.Done is = absurd cc
+    unbegun_not_done status.Refused is = absurd cc
+    unbegun_not_done status.Memory is = refl
+    unbegun_not_done other is = refl
+
     -- the script wasn't come to
     unread : (begun : Bool) → begun ≡ false → MatchBool begun (IsScript Ctl built stops.bytes []) (IsScript Ctl built stops.bytes [] ⊎ (◌≡◌ {A = List Entry} [] []))
     unread true is = absurd cc
@@ -256,12 +268,12 @@ module _ (words : List Text) (left after : Option Text) (faults_before faults_af
       (subst (λ h. RunsScript words left after faults_before faults_after old new h (unopened fault)) (sym none) (by fault caused))
     where
       by : (fault : StartFault) → FaultHasCause old new fault → RunsScript words left after faults_before faults_after old new [] (unopened fault)
-      by start.Store rose = runs_nothing words left after faults_before faults_after old new status.StoreFault read.bytes script same later read.given read.grammar (λ place at. absurd cc) (λ at. absurd cc) (λ is. read.drained) read.source (λ is. absurd cc)
+      by start.Store rose = runs_nothing words left after faults_before faults_after old new status.StoreFault read.bytes script same later read.given read.grammar (λ place at. absurd cc) (λ at. absurd cc) (λ is. read.drained) read.source (λ is. absurd cc) refl
           (served_none script status.StoreFault refl) (store_rose_one old new later.faults rose, inr (refl, refl), refl) (by_input status.StoreFault) (λ location told. inr refl)
-      by start.Memory caused = runs_nothing words left after faults_before faults_after old new status.Memory read.bytes script same later read.given (inl read.grammar) (λ place at. absurd cc) (λ at. absurd cc) (λ is. absurd cc) read.source (λ is. absurd cc)
+      by start.Memory caused = runs_nothing words left after faults_before faults_after old new status.Memory read.bytes script same later read.given (inl read.grammar) (λ place at. absurd cc) (λ at. absurd cc) (λ is. absurd cc) read.source (λ is. absurd cc) refl
           (served_none script status.Memory refl) tt (by_input status.Memory) (λ location told. inr refl)
       by (start.UnknownLocation location) caused = runs_nothing words left after faults_before faults_after old new (status.UnknownLocation location) read.bytes script same later read.given read.grammar (λ place at. absurd cc) (λ at. absurd cc)
-          (λ is. read.drained) read.source (λ is. absurd cc) (served_none script (status.UnknownLocation location) refl) (refl, caused.0, caused.1) (by_input (status.UnknownLocation location))
+          (λ is. read.drained) read.source (λ is. absurd cc) refl (served_none script (status.UnknownLocation location) refl) (refl, caused.0, caused.1) (by_input (status.UnknownLocation location))
           (λ other told. inl (ap status.UnknownLocation (one_unknown old location other caused.1 told)))
 
   -- ---- the commands were run
@@ -323,6 +335,7 @@ module _ (words : List Text) (left after : Option Text) (faults_before faults_af
       headline_alone = λ first told sound no_log. is_headline_alone for_now its_causes script first old new history ending (runs.by_states first (same ∙ told) sound no_log) runs.served caused;
       served = runs.served;
       status = caused;
+      plain = λ done. subst (λ told. IfContents told (λ first. Sound first → NoLog first → IfContents new.told (λ last. IsPlainRun script first last history))) same (runs_plainly script (script_is_plain script (script_is_planned read.bytes script read.grammar)) mid new history ending runs done cause);
       ends_with_fault = runs.ends_with_fault;
       no_operations = runs.no_operations;
     }

@@ -4,27 +4,12 @@ use Rattle.std.proofs.lemmas.List.{append-nil}
 use Rattle.std.specs.Prelude.{option_map}
 use Rattle.std.specs.List.{AllByRecursion}
 use Rattle.plain_model.specs.declared.commands.Asked.{Asked}
-use Rattle.plain_model.specs.declared.replies.Reply.{Reply}
 use Rattle.plain_model.specs.declared.history.Entry.{Entry}
 use Rattle.plain_model.specs.Summary.{replies_of, is_fault}
 use Rattle.plain_model.specs.Headline.{script_of, answered_by, InOrder, AllAnswered}
 use Rattle.plain_model.proofs.HistoryLaws.{only_last, not_once}
+use Rattle.plain_runs.specs.PlainRuns.{IsAnswerTo, AreAnswersTo}
 use Rattle.script_shell.specs.Promises.{EndsWithFault}
-
--- the entry answers the command
-pub record IsAnswerTo (asked : Asked) (e : Entry) : Type 0 where
-  pub session : e.session ≡ asked.session
-  pub command : e.command ≡ asked.command
-  pub answer : Reply
-  pub reply : e.reply ≡ Some answer
-  pub operation : e.operation ≡ 0
-
--- the entries answer these commands, one each
-abbrev pub AreAnswersTo : List Asked → List Entry → Type 0
-AreAnswersTo [] [] = Unit {0}
-AreAnswersTo [] (e ∷ es) = ⊥
-AreAnswersTo (asked ∷ script) [] = ⊥
-AreAnswersTo (asked ∷ script) (e ∷ es) = IsAnswerTo asked e × AreAnswersTo script es
 
 pub answers_push : (script : List Asked) (history : List Entry) (asked : Asked) (e : Entry) → AreAnswersTo script history → IsAnswerTo asked e → AreAnswersTo (script ++ asked ∷ []) (history ++ e ∷ [])
 answers_push [] [] asked e all one = (one, tt)

@@ -2,7 +2,7 @@
 use Rattle.std.proofs.Common.{◌≡◌, ◌⊎◌, inl, inr, ℕ, ◌+◌, ◌≤◌, Bool, true, false, cond, ◌||◌, nat_lt, length, List, [], ◌∷◌, ◌++◌, Option, Some, None, refl, sym, ap, ◌∙◌, subst, arith}
 use Rattle.std.specs.Prelude.{IsSome}
 use Rattle.std.specs.List.{AllByRecursion}
-use Rattle.std.proofs.lemmas.List.{append_assoc}
+use Rattle.std.proofs.lemmas.List.{append_assoc, append-nil}
 use Rattle.cell_world.specs.Texts.{Text}
 use Rattle.cell_world.specs.Counts.{Rose}
 use Rattle.cell_world.specs.Images.{Image, Trail, image_at, end_of_trail}
@@ -38,7 +38,8 @@ use Rattle.manager_core.specs.declared.manager.StopCause.{StopCause}
 use Rattle.manager_core.specs.declared.manager.StopCause.TheVariants as cause
 use Rattle.script_shell.specs.Stops.{stop_of, refuses}
 use Rattle.script_shell.specs.Promises.{for_now, is_of_commands, no_causes, EndsWithFault, Runs}
-use Rattle.script_shell.proofs.HistoryLaws.{AreAnswersTo, answers_push, in_order, all_answered, no_operations, fault_last, fault_none}
+use Rattle.plain_runs.specs.PlainRuns.{AreAnswersTo}
+use Rattle.script_shell.proofs.HistoryLaws.{answers_push, in_order, all_answered, no_operations, fault_last, fault_none}
 use Rattle.script_shell.proofs.ScriptLaws.{IsPlannedAsked}
 
 -- the run after some commands, none of which met a fault or want of memory
@@ -218,10 +219,10 @@ module _ (script : List Asked) (asked : Asked) (rest left : List Asked) (old mid
 -- ---- the end
 
 -- what holds where the contents are told is so at the end of a trail
-on_its_trail : (told : Told) (P : Image → Type 0) (trail : Trail) → told ≡ TellsTrail trail → P (image_at trail (end_of_trail trail)) → IfContents told P
+pub on_its_trail : (told : Told) (P : Image → Type 0) (trail : Trail) → told ≡ TellsTrail trail → P (image_at trail (end_of_trail trail)) → IfContents told P
 on_its_trail told P trail is p = subst (λ t. IfContents t P) (sym is) p
 
-in_its_contents : (told : Told) (P : Image → Type 0) (image : Image) → told ≡ TellsContents image → P image → IfContents told P
+pub in_its_contents : (told : Told) (P : Image → Type 0) (image : Image) → told ≡ TellsContents image → P image → IfContents told P
 in_its_contents told P image is p = subst (λ t. IfContents t P) (sym is) p
 
 -- what makes the promises of a run
@@ -252,6 +253,7 @@ finished script done rest old new unwritten ending none goes copy split answered
   };
   ends_with_fault = fault;
   no_operations = no_operations done new.history answered;
+  answers = λ is. subst (λ asked. AreAnswersTo asked new.history) (sym (split ∙ ap (λ others. done ++ others) (all is) ∙ append-nil done)) answered;
   later = later;
 }
   where

@@ -1,12 +1,19 @@
 -- What a script asks is planned, and of session 1.
-use Rattle.std.proofs.Common.{◌≡◌, ◌⊎◌, inl, inr, Bool, true, false, List, [], ◌∷◌, refl, sym, ap, ◌∙◌}
-use Rattle.std.specs.List.{AllByRecursion}
+use Rattle.std.proofs.Common.{◌≡◌, ◌⊎◌, inl, inr, Bool, true, false, ◌&&◌, List, [], ◌∷◌, Option, None, refl, sym, ap, ◌∙◌}
+use Rattle.std.specs.List.{AllByRecursion, list_all}
 use Rattle.cell_world.specs.Texts.{Text}
 use Rattle.cell_world.specs.Lists.{IsOneOf}
+use Rattle.cell_world.specs.declared.cells.MapKind.TheVariants.{Range}
+use Rattle.cell_world.specs.declared.cells.KeyType.TheVariants.{Int}
 use Rattle.map_ops.specs.Planning.{is_planned}
+use Rattle.map_ops.proofs.PlannedLaws.{planned_is_short}
 use Rattle.plain_model.specs.declared.commands.Asked.{Asked}
 use Rattle.plain_model.specs.declared.commands.Command.{Command}
 use Rattle.plain_model.specs.declared.commands.Command.TheVariants as command
+use Rattle.plain_model.specs.declared.commands.HighText.TheVariants.{Max}
+use Rattle.plain_model.specs.declared.commands.Side.TheVariants as side
+use Rattle.plain_runs.proofs.PlainHeadlines.{IsPlainAsked}
+use Rattle.plain_runs.proofs.PlainLaws.{short_is_plain}
 use Rattle.script_lang.specs.declared.programs.Program.TheVariants.{Ctl}
 use Rattle.script_lang.specs.declared.verbs.Verb.{Verb}
 use Rattle.script_lang.specs.declared.verbs.Verb.TheVariants as verb
@@ -14,61 +21,63 @@ use Rattle.script_lang.specs.Commands.{verb_of}
 use Rattle.script_lang.specs.Scripts.{built, IsScript}
 use Rattle.script_lang.proofs.WholeScripts.{IsInForce, script_is_in_force}
 
--- the commands of these verbs are planned
-abbrev planned_verb : Verb → Bool
-planned_verb verb.Map = true
-planned_verb verb.Unmap = true
-planned_verb verb.Shard = true
-planned_verb verb.Unshard = true
-planned_verb verb.Table = true
-planned_verb verb.Find = true
-planned_verb verb.List = true
-planned_verb verb.Shards = true
-planned_verb other = false
+-- a command of each verb
+abbrev example_of : Verb → Command
+example_of verb.Map = command.Map [] Range Int
+example_of verb.Unmap = command.Unmap []
+example_of verb.Shard = command.Shard [] []
+example_of verb.Unshard = command.Unshard [] []
+example_of verb.Table = command.Table [] []
+example_of verb.Add = command.Add [] [] Max []
+example_of verb.Addpoint = command.Addpoint [] [] []
+example_of verb.Delete = command.Delete [] [] None
+example_of verb.Offline = command.Offline [] [] None
+example_of verb.Online = command.Online [] [] None
+example_of verb.Move = command.Move [] [] [] None
+example_of verb.Split = command.Split [] [] None
+example_of verb.Merge = command.Merge [] [] None
+example_of verb.Lock = command.Lock [] [] (record { 0 = 0 })
+example_of verb.Unlock = command.Unlock [] [] (record { 0 = 0 })
+example_of verb.Find = command.Find [] []
+example_of verb.List = command.List []
+example_of verb.Shards = command.Shards []
+example_of verb.Open = command.Open 0 [] []
+example_of verb.Close = command.Close 0
+example_of verb.Put = command.Put 0 [] 0 []
+example_of verb.Get = command.Get 0 [] 0
+example_of verb.Del = command.Del 0 [] 0
+example_of verb.Peek = command.Peek [] []
+example_of verb.Detach = command.Detach []
+example_of verb.Attach = command.Attach []
+example_of verb.Differences = command.Differences [] []
+example_of verb.Resolve = command.Resolve [] [] 0 side.Shard
+example_of verb.Discard = command.Discard []
+example_of verb.Clear = command.Clear []
+example_of verb.Job = command.Job [] [] Max [] 0
+example_of verb.Step = command.Step 0
+example_of verb.Run = command.Run 0
 
-planned_by_verb : (c : Command) → is_planned c ≡ planned_verb (verb_of c)
+-- Whether a command is planned is told by its verb.
+planned_by_verb : (c : Command) → is_planned c ≡ is_planned (example_of (verb_of c))
 planned_by_verb (command.Map name kind type) = refl
-planned_by_verb (command.Unmap name) = refl
-planned_by_verb (command.Shard name location) = refl
-planned_by_verb (command.Unshard name location) = refl
-planned_by_verb (command.Table name table) = refl
-planned_by_verb (command.Add name low high location) = refl
-planned_by_verb (command.Addpoint name key location) = refl
-planned_by_verb (command.Delete name key token) = refl
-planned_by_verb (command.Offline name key token) = refl
-planned_by_verb (command.Online name key token) = refl
-planned_by_verb (command.Move name key location token) = refl
-planned_by_verb (command.Split name key token) = refl
-planned_by_verb (command.Merge name key token) = refl
-planned_by_verb (command.Lock name key token) = refl
-planned_by_verb (command.Unlock name key token) = refl
-planned_by_verb (command.Find name key) = refl
-planned_by_verb (command.List name) = refl
-planned_by_verb (command.Shards name) = refl
-planned_by_verb (command.Open number name key) = refl
-planned_by_verb (command.Close number) = refl
-planned_by_verb (command.Put number table row bytes) = refl
-planned_by_verb (command.Get number table row) = refl
-planned_by_verb (command.Del number table row) = refl
-planned_by_verb (command.Peek name key) = refl
-planned_by_verb (command.Detach location) = refl
-planned_by_verb (command.Attach location) = refl
-planned_by_verb (command.Differences location name) = refl
-planned_by_verb (command.Resolve location name number side) = refl
-planned_by_verb (command.Discard location) = refl
-planned_by_verb (command.Clear location) = refl
-planned_by_verb (command.Job name low high location batch) = refl
-planned_by_verb (command.Step number) = refl
-planned_by_verb (command.Run number) = refl
+planned_by_verb c = refl
 
 -- those that are built are planned
-among_planned : (vs : List Verb) → AllByRecursion (λ v. planned_verb v ≡ true) vs → (v : Verb) → IsOneOf vs v → planned_verb v ≡ true
+among_planned : (vs : List Verb) → list_all (λ v. is_planned (example_of v)) vs ≡ true → (v : Verb) → IsOneOf vs v → is_planned (example_of v) ≡ true
 among_planned [] all v is = absurd is
-among_planned (w ∷ vs) all v (inl here) = ap planned_verb (sym here) ∙ all.0
-among_planned (w ∷ vs) all v (inr there) = among_planned vs all.1 v there
+among_planned (w ∷ vs) all v (inl here) = ap (λ x. is_planned (example_of x)) (sym here) ∙ first (is_planned (example_of w)) (list_all (λ x. is_planned (example_of x)) vs) all
+  where
+    first : (a b : Bool) → (a && b) ≡ true → a ≡ true
+    first true b is = refl
+    first false b is = absurd cc
+among_planned (w ∷ vs) all v (inr there) = among_planned vs (others (is_planned (example_of w)) (list_all (λ x. is_planned (example_of x)) vs) all) v there
+  where
+    others : (a b : Bool) → (a && b) ≡ true → b ≡ true
+    others true b is = is
+    others false b is = absurd cc
 
-built_planned : (v : Verb) → IsOneOf built v → planned_verb v ≡ true
-built_planned = among_planned built (refl, (refl, (refl, (refl, (refl, (refl, (refl, (refl, tt))))))))
+built_planned : (v : Verb) → IsOneOf built v → is_planned (example_of v) ≡ true
+built_planned = among_planned built refl
 
 abbrev pub IsPlannedAsked : Asked → Type 0
 IsPlannedAsked asked = (is_planned asked.command ≡ true) × (asked.session ≡ 1)
@@ -79,3 +88,8 @@ asked_planned (asked ∷ script) all = ((planned_by_verb asked.command ∙ built
 
 pub script_is_planned : (bytes : Text) (script : List Asked) → IsScript Ctl built bytes script → AllByRecursion IsPlannedAsked script
 script_is_planned bytes script is = asked_planned script (script_is_in_force built bytes script is)
+
+-- so it is plain
+pub script_is_plain : (script : List Asked) → AllByRecursion IsPlannedAsked script → AllByRecursion IsPlainAsked script
+script_is_plain [] all = tt
+script_is_plain (asked ∷ script) all = ((short_is_plain asked.command (planned_is_short asked.command all.0.0), all.0.1), script_is_plain script all.1)

@@ -10,7 +10,8 @@ use Rattle.plain_model.specs.declared.plans.PlanStop.TheVariants as stop
 use Rattle.plain_model.specs.declared.replies.Reply.TheVariants as reply
 use Rattle.plain_model.specs.ShortCommands.{IsShortChange, IsShortAnswer, IsRefusedWith}
 use Rattle.manager_core.specs.Answering.{NoLog, Relies, AnswersShort}
-use Rattle.manager_core.proofs.ShortAnswers.{planned_is_short, none_in_way, answers_fault, answers_refused, answers_answer, answers_either}
+use Rattle.map_ops.proofs.PlannedLaws.{planned_is_short}
+use Rattle.manager_core.proofs.ShortAnswers.{none_in_way, answers_fault, answers_refused, answers_answer, answers_either}
 use Rattle.manager_core.proofs.answers.answer_command.Goals as goal
 
 pub commit_change-requires-clause-plans : goal.commit_change-requires-clause-plans

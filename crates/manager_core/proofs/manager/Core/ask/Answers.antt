@@ -5,7 +5,7 @@ use Rattle.plain_model.specs.Lines.{reply_lines}
 use Rattle.plain_model.specs.ShortCommands.{short_entry}
 use Rattle.manager_core.specs.Answering.{WritesText}
 use Rattle.manager_core.specs.declared.manager.StopCause.TheVariants as cause
-use Rattle.manager_core.proofs.ShortAnswers.{planned_is_short}
+use Rattle.map_ops.proofs.PlannedLaws.{planned_is_short}
 use Rattle.manager_core.proofs.EventLaws.{rose_before, enters_written, enters_partly, enters_unwritten, ready_next}
 use Rattle.manager_core.proofs.manager.Core.ask.Goals as goal
 

@@ -1,4 +1,4 @@
-//! The one line that takes no memory.
+//! The line of the reply `memory`, which takes no memory.
 ghost use Rattle.std.specs.Prelude.{◌≡◌, ◌≤◌, ◌++◌, IfSome, codes, decimal};
 ghost use Rattle.plain_model.specs.Lines.{reply_lines};
 

@@ -1,7 +1,7 @@
 use Rattle.std.proofs.Common.{◌≡◌, ℕ, List, ◌++◌, refl, ap, sym}
 use Rattle.std.specs.Prelude.{codes, decimal}
 use Rattle.std.specs.Fmt.{digits}
-use Rattle.manager_core.proofs.lines.tagged_memory_line.Goals as goal
+use Rattle.script_lang.proofs.memory_lines.tagged_memory_line.Goals as goal
 
 abbrev tagged : ℕ → List ℕ
 tagged session = decimal session ++ codes " memory\n"
