@@ -1,5 +1,6 @@
 //! Several sessions at one core: what each event comes to, and what is written.
-ghost use Rattle.std.specs.Prelude.{◌≡◌, ◌≤◌, IfOk};
+ghost use Rattle.std.specs.Prelude.{◌≡◌, ◌≤◌, true, IfOk};
+ghost use Rattle.map_ops.specs.Planning.{is_planned};
 ghost use Rattle.manager_core.specs.Cores.{HasRoom};
 
 use cell_world::cells::{KeyType, MapKind};
@@ -44,104 +45,59 @@ fn core_of(alloc: Global, sessions: u32) -> Result<Core<MemoryWorld>, Fail>
     }
 }
 
-/// Session asks for a map of a name.
-fn map(
+/// A session asks a command.
+fn ask(
     alloc: Global,
     core: &mut Core<MemoryWorld>,
     session: u32,
+    command: Command,
     tagged: bool,
-) -> Result<Outcome, Fail>
+) -> Outcome
     requires session { (1 ≤ session) × (session ≤ core.old.sessions) × (core.old.sessions ≤ 16) }
+    requires planned { is_planned command ≡ true }
     requires room { HasRoom core.old.journal core.old.stop }
     ensures room { HasRoom core.new.journal core.new.stop }
     ensures sessions { core.new.sessions ≡ core.old.sessions }
 {
-    let command = Command::Map(name(b"m")?, MapKind::Range, KeyType::Int);
-    Ok(core.event(alloc, session, Event::Ask(command), tagged))
+    core.event(alloc, session, Event::Ask(command), tagged)
 }
 
-/// Session makes the location a shard.
-fn shard(
-    alloc: Global,
-    core: &mut Core<MemoryWorld>,
-    session: u32,
-    tagged: bool,
-) -> Result<Outcome, Fail>
-    requires session { (1 ≤ session) × (session ≤ core.old.sessions) × (core.old.sessions ≤ 16) }
-    requires room { HasRoom core.old.journal core.old.stop }
-    ensures room { HasRoom core.new.journal core.new.stop }
-    ensures sessions { core.new.sessions ≡ core.old.sessions }
-{
-    let command = Command::Shard(name(b"m")?, here()?);
-    Ok(core.event(alloc, session, Event::Ask(command), tagged))
-}
-
-/// Session asks for the shards.
-fn shards(
-    alloc: Global,
-    core: &mut Core<MemoryWorld>,
-    session: u32,
-    tagged: bool,
-) -> Result<Outcome, Fail>
-    requires session { (1 ≤ session) × (session ≤ core.old.sessions) × (core.old.sessions ≤ 16) }
-    requires room { HasRoom core.old.journal core.old.stop }
-    ensures room { HasRoom core.new.journal core.new.stop }
-    ensures sessions { core.new.sessions ≡ core.old.sessions }
-{
-    let command = Command::Shards(name(b"m")?);
-    Ok(core.event(alloc, session, Event::Ask(command), tagged))
-}
-
-/// Session asks for the mapping of a key.
-fn find(
-    alloc: Global,
-    core: &mut Core<MemoryWorld>,
-    session: u32,
-    tagged: bool,
-) -> Result<Outcome, Fail>
-    requires session { (1 ≤ session) × (session ≤ core.old.sessions) × (core.old.sessions ≤ 16) }
-    requires room { HasRoom core.old.journal core.old.stop }
-    ensures room { HasRoom core.new.journal core.new.stop }
-    ensures sessions { core.new.sessions ≡ core.old.sessions }
-{
-    let key = KeyText::read(b"0").ok_or("a key word")?;
-    let command = Command::Find(name(b"m")?, key);
-    Ok(core.event(alloc, session, Event::Ask(command), tagged))
-}
-
-/// What two sessions ask in turn, and what each event is to come to.
-fn ask_in_turn(rt: HostRuntime, core: &mut Core<MemoryWorld>, tagged: bool) -> Result<(), Fail>
+/// Two sessions ask in turn. Whether each event comes to what it is to come to.
+fn ask_in_turn(alloc: Global, core: &mut Core<MemoryWorld>, tagged: bool) -> Result<bool, Fail>
     requires sessions { core.old.sessions ≡ 2 }
     requires room { HasRoom core.old.journal core.old.stop }
-    ensures room { HasRoom core.new.journal core.new.stop }
     ensures sessions { core.new.sessions ≡ core.old.sessions }
 {
-    let alloc = rt.alloc();
-    assert_eq!(rt; map(alloc, core, 1, tagged)?, GOOD);
-    assert_eq!(rt; map(alloc, core, 2, tagged)?, REFUSED);
-    assert_eq!(rt; shard(alloc, core, 2, tagged)?, GOOD);
-    assert_eq!(rt; shards(alloc, core, 1, tagged)?, GOOD);
-    assert_eq!(rt; find(alloc, core, 2, tagged)?, REFUSED);
-    Ok(())
+    let map = name(b"m")?;
+    let key = KeyText::read(b"0").ok_or("a key word")?;
+    let new_map = Command::Map(map, MapKind::Range, KeyType::Int);
+    let made = ask(alloc, core, 1, new_map, tagged);
+    let same_map = Command::Map(map, MapKind::List, KeyType::Guid);
+    let again = ask(alloc, core, 2, same_map, tagged);
+    let located = ask(alloc, core, 2, Command::Shard(map, here()?), tagged);
+    let told = ask(alloc, core, 1, Command::Shards(map), tagged);
+    let unowned = ask(alloc, core, 2, Command::Find(map, key), tagged);
+    Ok(made == GOOD && again == REFUSED && located == GOOD && told == GOOD && unowned == REFUSED)
+}
+
+/// What is written when two sessions ask in turn.
+fn written(alloc: Global, tagged: bool) -> Result<Vec<u8>, Fail> {
+    let mut core = core_of(alloc, 2)?;
+    if ask_in_turn(alloc, &mut core, tagged)? {
+        Ok(core.world.output(alloc)?)
+    } else {
+        Err(Fail::from("an event came to something else"))
+    }
 }
 
 #[test]
-fn each_line_has_its_session(rt: HostRuntime) -> Result<(), Fail> {
-    let mut core = core_of(rt.alloc(), 2)?;
-    ask_in_turn(rt, &mut core, true)?;
+fn each_line_has_its_session_where_lines_are_tagged(rt: HostRuntime) -> Result<(), Fail> {
     assert_eq!(rt;
-        core.world.output(rt.alloc())?.as_slice(),
+        written(rt.alloc(), true)?.as_slice(),
         b"1 ok\n2 map-exists\n2 ok\n1 shards 1\n1 s/a\n2 no-mapping\n".as_slice()
     );
-    Ok(())
-}
-
-#[test]
-fn untagged_lines_have_none(rt: HostRuntime) -> Result<(), Fail> {
-    let mut core = core_of(rt.alloc(), 2)?;
-    ask_in_turn(rt, &mut core, false)?;
     assert_eq!(rt;
-        core.world.output(rt.alloc())?.as_slice(),
+        written(rt.alloc(), false)?.as_slice(),
         b"ok\nmap-exists\nok\nshards 1\ns/a\nno-mapping\n".as_slice()
     );
     Ok(())
@@ -150,7 +106,7 @@ fn untagged_lines_have_none(rt: HostRuntime) -> Result<(), Fail> {
 #[test]
 fn the_history_has_each_event_in_order(rt: HostRuntime) -> Result<(), Fail> {
     let mut core = core_of(rt.alloc(), 2)?;
-    ask_in_turn(rt, &mut core, true)?;
+    assert!(rt; ask_in_turn(rt.alloc(), &mut core, true)?);
     assert_eq!(rt; core.length(), 5);
     assert_eq!(rt; core.standing(1).answered, 2);
     assert_eq!(rt; core.standing(2).answered, 3);
@@ -166,7 +122,8 @@ fn the_history_has_each_event_in_order(rt: HostRuntime) -> Result<(), Fail> {
 fn the_sixteenth_session_has_two_digits(rt: HostRuntime) -> Result<(), Fail> {
     let alloc = rt.alloc();
     let mut core = core_of(alloc, 16)?;
-    assert_eq!(rt; map(alloc, &mut core, 16, true)?, GOOD);
+    let command = Command::Map(name(b"m")?, MapKind::Range, KeyType::Int);
+    assert_eq!(rt; ask(alloc, &mut core, 16, command, true), GOOD);
     assert_eq!(rt; core.world.output(alloc)?.as_slice(), b"16 ok\n".as_slice());
     Ok(())
 }

@@ -46,9 +46,9 @@ plain_replies s (asked ∷ script) = (plain_step holds_nothing s asked.session a
 
 -- the entry is the command's answer
 pub record IsAnswerTo (asked : Asked) (e : Entry) : Type 0 where
-  pub session : e.session ≡ asked.session
-  pub command : e.command ≡ asked.command
-  pub answer : Reply
+  pub session : e.session ≡ asked.session  -- it is of the session that asked
+  pub command : e.command ≡ asked.command  -- of the command that was asked
+  pub answer : Reply  -- which got a reply
   pub reply : e.reply ≡ Some answer
   pub operation : e.operation ≡ 0  -- the command is no operation
 

@@ -8,7 +8,7 @@ ghost use Rattle.plain_model.specs.Summary.{replies_of, is_fault, is_memory};
 ghost use Rattle.plain_model.specs.Headline.{GoesOnFrom, IsLegalHistory, IsLegalByStates};
 ghost use Rattle.plain_runs.specs.PlainRuns.{is_plain, AreAnswersTo, IsPlainRun};
 
-/// Where one session asks plain commands, nothing is going at the end, and no entry is `fault` or `memory`, a legal history is the run of the plain step.
+/// Where one session asks plain commands, each has one entry, without an operation, nothing is going at the end, and no entry is `fault` or `memory`, a legal history is the run of the plain step.
 pub fn calm_runs_are_plain()
     ensures by_states { (script : List Asked) (history : List Entry) → AllByRecursion (λ (asked : Asked). (is_plain asked.command ≡ true) × (asked.session ≡ 1)) script → AreAnswersTo script history →
         replies_of is_fault history ≡ 0 → replies_of is_memory history ≡ 0 →

@@ -216,7 +216,7 @@ module _ (words : List Text) (left after : Option Text) (faults_before faults_af
           served (status_nothing cause input opening);
       served = served;
       status = status_nothing cause input opening;
-      plain = λ done. let both : true ≡ false = sym done ∙ not_done in absurd cc;
+      plain = λ done plain. let both : true ≡ false = sym done ∙ not_done in absurd cc;
       ends_with_fault = tt;
       no_operations = tt;
     }
@@ -335,7 +335,7 @@ module _ (words : List Text) (left after : Option Text) (faults_before faults_af
       headline_alone = λ first told sound no_log. is_headline_alone for_now its_causes script first old new history ending (runs.by_states first (same ∙ told) sound no_log) runs.served caused;
       served = runs.served;
       status = caused;
-      plain = λ done. subst (λ told. IfContents told (λ first. Sound first → NoLog first → IfContents new.told (λ last. IsPlainRun script first last history))) same (runs_plainly script (script_is_plain script (script_is_planned read.bytes script read.grammar)) mid new history ending runs done cause);
+      plain = λ done plain. subst (λ told. IfContents told (λ first. Sound first → NoLog first → IfContents new.told (λ last. IsPlainRun script first last history))) same (runs_plainly script (script_is_plain script (script_is_planned read.bytes script read.grammar)) mid new history ending runs done cause);
       ends_with_fault = runs.ends_with_fault;
       no_operations = runs.no_operations;
     }

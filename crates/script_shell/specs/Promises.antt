@@ -16,7 +16,7 @@ use Rattle.plain_model.specs.Summary.{is_fault}
 use Rattle.plain_model.specs.Written.{EachReply}
 use Rattle.plain_model.specs.Headline.{Manner, Causes, has_stopped, is_done, is_store_fault, EachOnceInOrder, KeepsToStatus, StatusHasCause, Headline, HeadlineAlone}
 use Rattle.plain_model.specs.RunSoFar.{HoldsOnTrail, HoldsByStates}
-use Rattle.plain_runs.specs.PlainRuns.{AreAnswersTo, IsPlainRun}
+use Rattle.plain_runs.specs.PlainRuns.{is_plain, AreAnswersTo, IsPlainRun}
 use Rattle.script_lang.specs.declared.programs.Program.TheVariants.{Ctl}
 use Rattle.script_lang.specs.declared.command_line.Words.{Words}
 use Rattle.script_lang.specs.CommandLine.{options_built, SaysWords, IsAccepted, IsBadAt}
@@ -140,8 +140,8 @@ pub record RunsScript (words : List Text) (left after : Option Text) (faults_bef
   -- over any world the two parts of it that speak of no store
   pub served : EachOnceInOrder for_now script history ending
   pub status : StatusHasCause for_now (causes_of words bytes faults_before faults_after) old new history ending
-  -- with status 0 or 1, from a sound image without a logged operation on, where contents are told: the replies are those of the plain step, one command after the other, and the final stores stand for the state that it leaves
-  pub plain : is_done ending ≡ true → IfContents old.told (λ first. Sound first → NoLog first → IfContents new.told (λ last. IsPlainRun script first last history))
+  -- with status 0 or 1, where all commands are plain, from a sound image without a logged operation on, where contents are told: the replies are those of the plain step, one command after the other, and the final stores stand for the state that it leaves
+  pub plain : is_done ending ≡ true → AllByRecursion (λ (asked : Asked). is_plain asked.command ≡ true) script → IfContents old.told (λ first. Sound first → NoLog first → IfContents new.told (λ last. IsPlainRun script first last history))
   -- at most one `fault` entry, and none after it
   pub ends_with_fault : EndsWithFault history
   -- no command is an operation
