@@ -87,8 +87,8 @@ fn long_commands(rt: HostRuntime) -> Result<(), Fail> {
 #[test]
 fn the_commands_that_are_built(rt: HostRuntime) -> Result<(), Fail> {
     let alloc = rt.alloc();
-    assert!(rt; read_script(alloc, Program::Ctl, b"map m range int\n").is_ok());
-    let fault = read_script(alloc, Program::Ctl, b"map m range int\nunmap m\n").err();
+    assert!(rt; read_script(alloc, Program::Ctl, b"map m range int\nunmap m\n").is_ok());
+    let fault = read_script(alloc, Program::Ctl, b"map m range int\nrun 1\n").err();
     assert_eq!(rt; fault, Some(ScriptFault::Line(2, Reason::UnknownCommand)));
     Ok(())
 }
