@@ -31,6 +31,11 @@ is_old_of number Plain = false
 is_old_of number (Old p) = p == number
 is_old_of number New = false
 
+abbrev pub is_new : Mark → Bool
+is_new Plain = false
+is_new (Old p) = false
+is_new New = true
+
 abbrev pub is_own : ℕ → LocalRow → Mark → Bool
 is_own number row Plain = false
 is_own number row (Old p) = p == number

@@ -2,7 +2,7 @@
 ghost use Rattle.std.specs.Prelude.{◌≡◌, []};
 ghost use Rattle.cell_world.specs.Sweep.{reaches};
 ghost use Rattle.cell_world.specs.declared.cells.CellKey.{CellKey};
-ghost use Rattle.local_tables.specs.Altering.{alters, first_map, has_mark_of, is_old_of, is_past};
+ghost use Rattle.local_tables.specs.Altering.{alters, first_map, has_mark_of, is_new, is_old_of, is_past};
 ghost use Rattle.local_tables.specs.Resolving.{is_marked};
 
 use cell_world::cells::{CellKey, LocalRow, Mark};
@@ -44,6 +44,17 @@ fn is_marked(mark: Mark) -> bool
     match mark {
         Mark::Plain => false,
         Mark::Old(_) => true,
+        Mark::New => true,
+    }
+}
+
+/// Whether the mark is New.
+pub fn is_new(mark: Mark) -> bool
+    ensures { result ≡ is_new mark }
+{
+    match mark {
+        Mark::Plain => false,
+        Mark::Old(_) => false,
         Mark::New => true,
     }
 }
