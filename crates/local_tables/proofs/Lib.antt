@@ -1,5 +1,6 @@
 pub mod BelowRows
 pub mod KeysBelow
+pub mod ScanLaws
 pub mod SearchTells
 pub mod Searching
 pub mod SitesHere
