@@ -1,5 +1,8 @@
+pub mod AlteredRows
 pub mod BelowRows
+pub mod ChangeTells
 pub mod KeysBelow
+pub mod NothingToDo
 pub mod ScanLaws
 pub mod SearchTells
 pub mod Searching

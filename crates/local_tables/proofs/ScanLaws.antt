@@ -165,6 +165,10 @@ takes work op found olds news last full is taken (Ok next) h = by next h.2
     by None g = inr (leaves, g)
     by (Some k) g = (leaves, g)
 
+pub none_pass : (f : LocalRow → Bool) (rows : List LocalRow) → ((q : LocalRow) → IsOneOf rows q → f q ≡ false) → [] ≡ filter f rows
+none_pass f [] h = refl
+none_pass f (row ∷ rows) h = none_pass f rows (λ q m. h q (inr m)) ∙ ap (λ b. cond b (row ∷ filter f rows) (filter f rows)) (sym (h row (inl refl)))
+
 -- ---- the rows of a store
 
 module _ (s : Store) (store : IsStore s) where
@@ -299,10 +303,6 @@ module _ (s : Store) (store : IsStore s) where
     piece_lists news (Some next) t = subst (λ k. IsUpTo work op s.locals k news) (sym t.1) (goes_on news t.0)
 
   -- ---- the beginning
-
-  none_pass : (f : LocalRow → Bool) (rows : List LocalRow) → ((q : LocalRow) → IsOneOf rows q → f q ≡ false) → [] ≡ filter f rows
-  none_pass f [] h = refl
-  none_pass f (row ∷ rows) h = none_pass f rows (λ q m. h q (inr m)) ∙ ap (λ b. cond b (row ∷ filter f rows) (filter f rows)) (sym (h row (inl refl)))
 
   -- no row of this map, or of a later one, is before its first key
   from_first : (name : Text) (q : LocalRow) → (byte_cmp q.map name ≡ Less → ⊥) → is_before (at.Local name [] 0) q ≡ false
