@@ -1,8 +1,8 @@
 -- The altered rows of a store, listed piece by piece.
-use Rattle.std.proofs.Common.{◌≡◌, ◌⊎◌, inl, inr, ℕ, ◌≤◌, ◌<◌, Bool, true, false, cond, not, ◌&&◌, List, [], ◌∷◌, ◌++◌, length, take, get_or, ◌-◌, ◌+◌, Option, Some, None, option_map, refl, sym, ap, ◌∙◌, subst, arith, true≢false}
+use Rattle.std.proofs.Common.{◌≡◌, ◌⊎◌, inl, inr, ℕ, ◌≤◌, ◌<◌, Bool, true, false, cond, not, ◌&&◌, ◌||◌, List, [], ◌∷◌, ◌++◌, length, take, get_or, ◌-◌, ◌+◌, Option, Some, None, option_map, refl, sym, ap, ◌∙◌, subst, arith, true≢false}
 use Rattle.std.specs.Prelude.{filter, option_to_list, Result, Ok, Err, IfOk}
 use Rattle.std.specs.FinMap as fin
-use Rattle.std.specs.Ordering.{is_lt, is_eq, nat_cmp, ordering_then, ordering_reverse}
+use Rattle.std.specs.Ordering.{is_lt, is_eq, is_gt, nat_cmp, ordering_then, ordering_reverse}
 use Rattle.std.specs.declared.cmp.Ordering.{Ordering}
 use Rattle.std.specs.declared.cmp.Ordering.TheVariants.{Less, Equal, Greater}
 use Rattle.std.proofs.lemmas.Bool.{and_parts, and_from}
@@ -10,7 +10,7 @@ use Rattle.std.proofs.lemmas.Cmp.{nat_list_cmp_total}
 use Rattle.std.proofs.lemmas.List.{take_more}
 use Rattle.cell_world.specs.Texts.{Text, is_name}
 use Rattle.cell_world.specs.ByteOrder.{byte_cmp}
-use Rattle.cell_world.specs.Keys.{same, below, low_of, overlaps}
+use Rattle.cell_world.specs.Keys.{same, below, at_most, before, contains, low_of, overlaps}
 use Rattle.cell_world.specs.Lists.{IsOneOf}
 use Rattle.cell_world.specs.Orders.{local_cmp, cell_cmp, kind_number}
 use Rattle.cell_world.specs.Spelled.{IsLocalRow}
@@ -28,14 +28,16 @@ use Rattle.cell_world.specs.declared.cells.CellKey.TheVariants as at
 use Rattle.cell_world.specs.declared.cells.LocalRow.{LocalRow}
 use Rattle.cell_world.specs.declared.cells.Site.{Site}
 use Rattle.cell_world.proofs.OrderLaws.{locals_total, exact_locals}
-use Rattle.cell_world.proofs.SpanLaws.{same_is, same_self}
+use Rattle.cell_world.specs.declared.spans.Span.{Span}
+use Rattle.cell_world.specs.declared.spans.Span.TheVariants.{Range, Point}
+use Rattle.cell_world.proofs.SpanLaws.{not_true, same_is, same_self, at_most_self, at_most_trans, at_most_below, at_most_before, low_at_most, shared_of_overlap}
 use Rattle.global_tables.specs.declared.faults.StepFault.{StepFault}
 use Rattle.global_tables.proofs.CellOrder.{Before, not_itself, before_trans, cell_total, as_rising, by_number, never_less, not_less, is_not_lt}
 use Rattle.global_tables.proofs.Entries.{entries_rise, entry_stands}
 use Rattle.global_tables.proofs.GroupCells as group_cells
 use Rattle.global_tables.proofs.Least.{number_least, empty_least, name_least}
 use Rattle.global_tables.proofs.Rising.{Rising, rising_append, rising_filter, rising_front, rising_across, rising_map_in, same_rising, in_left, in_right, in_either, in_filter, from_filter}
-use Rattle.local_tables.specs.Altering.{alters, altered, first_map, is_old_of, is_past}
+use Rattle.local_tables.specs.Altering.{alters, altered, begins_past, first_map, is_old_of, is_past, is_past_hull}
 use Rattle.local_tables.specs.Resolving.{is_marked}
 use Rattle.local_tables.specs.Scanning.{piece_size, altered_of, altered_in, GoesOn, LeavesLast, TakesRows, is_before, IsUpTo, Lists}
 use Rattle.local_tables.specs.declared.altering.Work.{Work}
@@ -99,9 +101,44 @@ past_map op row q past (inr h) = elim (later_map row q h) [
   | inr tie ↦ (let is : row.map ≡ q.map = same_is row.map q.map (ap is_eq tie) in subst (λ m. byte_cmp op.map m ≡ Less) is (is_less (byte_cmp op.map row.map) past))
 ]
 
+-- the low key of a later row of the same map isn't below
+later_low : (row q : LocalRow) → row.map ≡ q.map → (row ≡ q) ⊎ RowBefore row q → at_most (low_of row.span) (low_of q.span) ≡ true
+later_low row q e (inl is) = subst (λ (r : LocalRow). at_most (low_of row.span) (low_of r.span) ≡ true) is (at_most_self (low_of row.span))
+later_low row q e (inr h) = first (byte_cmp (low_of row.span) (low_of q.span)) (nat_cmp row.number q.number) (sym (local_order row.map q.map (low_of row.span) (low_of q.span) row.number q.number e) ∙ h)
+  where
+    first : (r s : Ordering) → ordering_then r s ≡ Less → not (is_gt r) ≡ true
+    first Less s h = refl
+    first Equal s h = refl
+    first Greater s h = cc
+
+-- no key from there on is in the hull
+none_past : (hull : Span) (low key : Text) → begins_past hull low ≡ true → at_most low key ≡ true → contains hull key ≡ true → ⊥
+none_past (Range from high) low key past up holds =
+    let inside = at_most_before low key high up (and_parts (at_most from key) (before key high) holds).1 in
+    true≢false (sym inside ∙ not_true (before low high) past)
+none_past (Point at) low key past up holds =
+    let is : at ≡ key = same_is at key holds in
+    let itself : below low low ≡ true = at_most_below low at low (subst (λ k. at_most low k ≡ true) (sym is) up) past in
+    true≢false (sym (ap is_eq (sym (is_less (byte_cmp low low) itself)) ∙ same_self low))
+
+past_reach : (op : Op) (row q : LocalRow) → is_past_hull op row ≡ true → (row ≡ q) ⊎ RowBefore row q → reaches op q ≡ false
+past_reach op row q past h = by (below op.map row.map) refl past
+  where
+    off : same row.map op.map ≡ true → begins_past op.hull (low_of row.span) ≡ true → (b : Bool) → reaches op q ≡ b → reaches op q ≡ false
+    off m p false e = e
+    off m p true e =
+        let parts = and_parts (same q.map op.map) (overlaps q.span op.hull) e in
+        let shared = shared_of_overlap q.span op.hull parts.1 in
+        let up = at_most_trans (low_of row.span) (low_of q.span) shared.0 (later_low row q (same_is row.map op.map m ∙ sym (same_is q.map op.map parts.0)) h) (low_at_most q.span shared.0 shared.1) in
+        absurd (none_past op.hull (low_of row.span) shared.0 p up shared.2)
+
+    by : (b : Bool) → below op.map row.map ≡ b → (b || (same row.map op.map && begins_past op.hull (low_of row.span))) ≡ true → reaches op q ≡ false
+    by true e past = beyond op q (past_map op row q e h)
+    by false e past = let parts = and_parts (same row.map op.map) (begins_past op.hull (low_of row.span)) past in off parts.0 parts.1 (reaches op q) refl
+
 past_on : (work : Work) (op : Op) (row q : LocalRow) → is_past work op row ≡ true → (row ≡ q) ⊎ RowBefore row q → alters work op q ≡ false
-past_on ToMark op row q past h = ap (λ b. b && not (is_old_of op.number q.mark)) (beyond op q (past_map op row q past h))
-past_on ToUndo op row q past h = ap (λ b. b && is_marked q.mark) (beyond op q (past_map op row q past h))
+past_on ToMark op row q past h = ap (λ b. b && not (is_old_of op.number q.mark)) (past_reach op row q past h)
+past_on ToUndo op row q past h = ap (λ b. b && is_marked q.mark) (past_reach op row q past h)
 past_on ToSettle op row q past h = absurd (true≢false (sym past))
 
 -- ---- the altered rows in cells
