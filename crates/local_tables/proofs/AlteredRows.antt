@@ -1,17 +1,16 @@
 -- The rows that a transaction alters are all that it alters, each once, so the changes make the local transactions.
-use Rattle.std.proofs.Common.{◌++◌, ◌≡◌, ◌≢◌, ◌⊎◌, ℕ, Bool, true, false, not, ◌&&◌, cond, refl, sym, ap, ◌∙◌, subst, Some, None, Option, inl, inr, true≢false, List, [], ◌∷◌, is_some}
-use Rattle.std.specs.Prelude.{filter, IfSome, ◌==◌}
+use Rattle.std.proofs.Common.{◌≡◌, ◌⊎◌, ℕ, Bool, true, false, not, ◌&&◌, cond, refl, sym, ap, ◌∙◌, subst, Some, None, Option, inl, inr, true≢false, List, [], ◌∷◌, is_some}
+use Rattle.std.specs.Prelude.{filter, ◌==◌}
 use Rattle.std.specs.FinMap as fin
 use Rattle.std.specs.declared.cmp.Ordering.TheVariants.{Less, Equal}
 use Rattle.std.proofs.lemmas.Cmp.{tied_itself}
 use Rattle.std.proofs.lemmas.Bool.{cases_Bool, eqb-true}
 use Rattle.cell_world.specs.Texts.{Text}
-use Rattle.cell_world.specs.Lists.{IsOneOf}
 use Rattle.cell_world.specs.Orders.{local_cmp}
 use Rattle.cell_world.specs.Meaning.{counts, counts_with, is_logged}
 use Rattle.cell_world.specs.Images.{Image, Shard, global}
 use Rattle.cell_world.specs.Stores.{Log, Locals, local_key}
-use Rattle.cell_world.specs.Sound.{Sound, HasLog, HasLocal, locals_at}
+use Rattle.cell_world.specs.Sound.{Sound, HasLog, locals_at}
 use Rattle.cell_world.specs.Sweep.{sweep, reaches, marked_as, IsSwept}
 use Rattle.cell_world.specs.declared.operations.Op.{Op}
 use Rattle.cell_world.specs.declared.cells.LocalRow.{LocalRow}
@@ -25,7 +24,7 @@ use Rattle.global_tables.proofs.Rising.{Rising, rising_map_in, rising_filter, in
 use Rattle.image_laws.specs.LocalSteps.{AreKeyed, settle, settle_as, IsStepped, IsSettled}
 use Rattle.image_laws.specs.RowEdits.{AreDistinct, AreScanned, Leaves}
 use Rattle.image_laws.proofs.EditImages.{edits_step, edits_undo, edits_settle}
-use Rattle.local_tables.specs.Altering.{alters, altered, is_old_of, has_mark_of, is_own, to_mark, to_undo, to_settle, if_any, edits_of}
+use Rattle.local_tables.specs.Altering.{alters, altered, is_old_of, is_own, to_mark, to_undo, to_settle, if_any, edits_of}
 use Rattle.local_tables.specs.Resolving.{is_marked}
 use Rattle.local_tables.specs.declared.altering.Work.TheVariants.{ToMark, ToUndo, ToSettle}
 

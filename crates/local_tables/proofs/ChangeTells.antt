@@ -1,5 +1,5 @@
 -- The changes of the local transactions, over what is told.
-use Rattle.std.proofs.Common.{◌≡◌, ℕ, ◌+◌, ◌≤◌, Bool, true, false, cond, not, ◌&&◌, List, [], ◌∷◌, ◌++◌, length, Option, Some, None, option_map, is_some, refl, sym, ap, ◌∙◌, subst, arith, true≢false}
+use Rattle.std.proofs.Common.{◌≡◌, ℕ, ◌+◌, ◌≤◌, Bool, true, false, cond, not, ◌&&◌, List, [], ◌∷◌, ◌++◌, length, Option, option_map, is_some, refl, sym, ap, ◌∙◌, subst, arith, true≢false}
 use Rattle.std.specs.Prelude.{filter, option_to_list, unwrap_or}
 use Rattle.std.specs.FinMap as fin
 use Rattle.std.proofs.lemmas.Bool.{and_parts, and_from}
@@ -15,7 +15,6 @@ use Rattle.cell_world.specs.Meaning.{is_logged}
 use Rattle.cell_world.specs.Outside.{Outside, Told, IfContents, store_at, place_at}
 use Rattle.cell_world.specs.Sound.{HasLog, locals_at}
 use Rattle.cell_world.specs.Stores.{Store, Locals, empty_store}
-use Rattle.cell_world.specs.Spelled.{listed}
 use Rattle.cell_world.specs.Sweep.{reaches, sweep}
 use Rattle.cell_world.specs.declared.operations.Op.{Op}
 use Rattle.cell_world.specs.declared.operations.Piece.{Piece}
@@ -90,8 +89,8 @@ module _ (o : Outside) (site : Site) (work : Work) (op : Op) (reach : (q : Local
       (λ image is location place.
       let there_is = there location place image is in
       let few : length (filter (is_foreign op.number) seen) ≤ foreign_marks op (locals_at image location) =
-          subst (λ xs. length (filter (is_foreign op.number) xs) ≤ foreign_marks op (locals_at image location)) (sym there_is)
-          (fewer_twice (is_foreign op.number) (alters work op) (λ row. reaches op row && is_foreign op.number row) (fin.values (locals_at image location)) (λ q t a. and_from (reaches op q) (is_foreign op.number q) (reach q a) t)) in
+      subst (λ xs. length (filter (is_foreign op.number) xs) ≤ foreign_marks op (locals_at image location)) (sym there_is)
+      (fewer_twice (is_foreign op.number) (alters work op) (λ row. reaches op row && is_foreign op.number row) (fin.values (locals_at image location)) (λ q t a. and_from (reaches op q) (is_foreign op.number q) (reach q a) t)) in
       omega (arith, same, le, few))
       found
 

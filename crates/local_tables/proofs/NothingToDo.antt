@@ -1,13 +1,12 @@
 -- Nothing to do is answered exactly where the transaction has been made.
-use Rattle.std.proofs.Common.{◌≡◌, ◌≢◌, ◌⊎◌, ◌↔◌, ℕ, Bool, true, false, not, ◌&&◌, eqb, cond, refl, sym, ap, ◌∙◌, subst, Some, None, Option, inl, inr, true≢false, List, [], ◌∷◌, ◌++◌, arith}
-use Rattle.std.specs.Prelude.{filter, IsTrue, ◌==◌}
+use Rattle.std.proofs.Common.{◌≡◌, ◌≢◌, ◌⊎◌, ◌↔◌, ℕ, Bool, true, false, not, ◌&&◌, cond, refl, sym, ap, ◌∙◌, subst, Some, None, Option, inl, inr, true≢false, List, [], ◌∷◌, ◌++◌, arith}
+use Rattle.std.specs.Prelude.{◌==◌}
 use Rattle.std.specs.FinMap as fin
-use Rattle.std.proofs.lemmas.Bool.{cases_Bool, eqb-true, and_from}
-use Rattle.std.proofs.lemmas.Bool.Decides.{eqb_tells, nat_tests}
+use Rattle.std.proofs.lemmas.Bool.{cases_Bool, eqb-true}
 use Rattle.cell_world.specs.Texts.{Text}
 use Rattle.cell_world.specs.Keys.{same}
 use Rattle.cell_world.specs.Lists.{IsOneOf}
-use Rattle.cell_world.specs.Marked.{IsOld, IsNew, HasNoMark}
+use Rattle.cell_world.specs.Marked.{HasNoMark}
 use Rattle.cell_world.specs.Spelled.{listed}
 use Rattle.cell_world.specs.Stores.{Log, Locals, local_key}
 use Rattle.cell_world.specs.Sound.{HasLocal}
@@ -103,9 +102,10 @@ nothing_to_settle op locals keyed = (forth, back)
   where
     forth : None ≡ if_any (to_settle op locals) → HasNoMark op locals
     forth e row has =
-        let none = none_altered locals keyed ToSettle op (no_edits (settle op.number) (altered ToSettle op locals) (none_any (to_settle op locals) e)) row has in
-        (λ old. equal_tests op.number op.number (sym (ap (is_own op.number row) old) ∙ none) refl,
-        λ new. equal_tests row.number op.number (sym (ap (is_own op.number row) new.0) ∙ none) new.1)
+        let none = none_altered locals keyed ToSettle op (no_edits (settle op.number) (altered ToSettle op locals) (none_any (to_settle op locals) e)) row has in (
+          λ old. equal_tests op.number op.number (sym (ap (is_own op.number row) old) ∙ none) refl,
+          λ new. equal_tests row.number op.number (sym (ap (is_own op.number row) new.0) ∙ none) new.1,
+        )
 
     back : HasNoMark op locals → None ≡ if_any (to_settle op locals)
     back clean = ap (λ rows. if_any (edits_by (settle op.number) rows)) (sym (altered_none locals keyed ToSettle op (λ row has. by row has row.mark refl)))

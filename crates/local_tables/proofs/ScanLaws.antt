@@ -8,16 +8,16 @@ use Rattle.std.specs.declared.cmp.Ordering.TheVariants.{Less, Equal, Greater}
 use Rattle.std.proofs.lemmas.Bool.{and_parts, and_from}
 use Rattle.std.proofs.lemmas.Cmp.{nat_list_cmp_total}
 use Rattle.std.proofs.lemmas.List.{take_more}
-use Rattle.cell_world.specs.Texts.{Text, is_name}
+use Rattle.cell_world.specs.Texts.{Text}
 use Rattle.cell_world.specs.ByteOrder.{byte_cmp}
 use Rattle.cell_world.specs.Keys.{same, below, at_most, before, contains, low_of, overlaps}
 use Rattle.cell_world.specs.Lists.{IsOneOf}
-use Rattle.cell_world.specs.Orders.{local_cmp, cell_cmp, kind_number}
+use Rattle.cell_world.specs.Orders.{local_cmp, cell_cmp}
 use Rattle.cell_world.specs.Spelled.{IsLocalRow}
 use Rattle.cell_world.specs.Stores.{Store, IsStore, Stands, local_key, own_key}
 use Rattle.cell_world.specs.Finding.{IsScan, IsFromOn}
-use Rattle.cell_world.specs.Images.{Image, IsImage}
-use Rattle.cell_world.specs.Outside.{Outside, OfStore, IfContents, TellsCells, IsSite, store_at, place_at}
+use Rattle.cell_world.specs.Images.{Image}
+use Rattle.cell_world.specs.Outside.{Outside, IfContents, TellsCells, IsSite, store_at, place_at}
 use Rattle.cell_world.specs.Sound.{HasLocal}
 use Rattle.cell_world.specs.Sweep.{reaches}
 use Rattle.cell_world.specs.declared.operations.Op.{Op}

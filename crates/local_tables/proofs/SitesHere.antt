@@ -1,10 +1,10 @@
 -- Of distinct locations one has the number of a site.
-use Rattle.std.proofs.Common.{◌≡◌, ℕ, suc, zero, ◌+◌, ◌-◌, ◌==◌, eqb, Bool, true, false, if◌then◌else◌, List, [], ◌∷◌, ◌||◌, refl, sym, ap, ◌∙◌, subst, Some, None, Option, option_map, is_some, arith, true≢false}
+use Rattle.std.proofs.Common.{◌≡◌, ℕ, suc, zero, ◌-◌, ◌==◌, eqb, Bool, true, false, if◌then◌else◌, List, [], ◌∷◌, ◌||◌, refl, sym, ap, ◌∙◌, subst, Some, None, Option, option_map, is_some, arith, true≢false}
 use Rattle.std.specs.List.{slice_get, IsDistinct, AllByRecursion}
-use Rattle.std.proofs.lemmas.Bool.Decides.{eqb_tells, nat_tests}
+use Rattle.std.proofs.lemmas.Bool.Decides.{nat_tests}
 use Rattle.cell_world.specs.Texts.{Text}
 use Rattle.cell_world.specs.Keys.{same, is_among}
-use Rattle.cell_world.specs.Images.{Place, Global, Shard}
+use Rattle.cell_world.specs.Images.{Global, Shard}
 use Rattle.cell_world.specs.Outside.{place_at, site_number}
 use Rattle.cell_world.specs.declared.cells.Site.{Site}
 use Rattle.cell_world.proofs.SpanLaws.{same_is, same_self}

@@ -1,15 +1,13 @@
 -- The edits of listed rows, one after the other, and the reads that they cost.
-use Rattle.std.proofs.Common.{◌≡◌, inl, inr, ℕ, zero, suc, ◌+◌, ◌≤◌, ◌<◌, ◌==◌, eqb, Bool, true, false, cond, not, ◌&&◌, List, [], ◌∷◌, ◌++◌, take, length, get_or, Option, Some, None, refl, sym, ap, ◌∙◌, subst, arith, true≢false}
+use Rattle.std.proofs.Common.{◌≡◌, inl, ℕ, zero, suc, ◌+◌, ◌≤◌, ◌<◌, Bool, true, false, cond, List, [], ◌∷◌, ◌++◌, take, length, get_or, Option, Some, None, refl, sym, ap, ◌∙◌, subst, arith, true≢false}
 use Rattle.std.specs.Prelude.{filter, IsTrue}
-use Rattle.std.proofs.lemmas.Bool.{and_parts}
 use Rattle.std.proofs.lemmas.List.{append_assoc, take_more}
 use Rattle.std.proofs.lemmas.List.Elements.{filter-append}
 use Rattle.cell_world.specs.Lists.{IsOneOf}
 use Rattle.cell_world.specs.Images.{Image, global}
-use Rattle.cell_world.specs.Meaning.{counts, counts_with, is_logged}
+use Rattle.cell_world.specs.Meaning.{is_logged}
 use Rattle.cell_world.specs.Outside.{Told, IfContents}
 use Rattle.cell_world.proofs.ContentsLaws.{contents_weaker, contents_both}
-use Rattle.cell_world.specs.Stores.{Log}
 use Rattle.cell_world.specs.Sweep.{reaches, marked_as, sweep}
 use Rattle.cell_world.specs.declared.operations.Op.{Op}
 use Rattle.cell_world.specs.declared.cells.LocalRow.{LocalRow}
@@ -20,7 +18,6 @@ use Rattle.image_laws.specs.LocalSteps.{settle, settle_as}
 use Rattle.image_laws.specs.RowEdits.{edit_to, edits_by}
 use Rattle.global_tables.proofs.Rising.{in_take, in_right}
 use Rattle.local_tables.specs.Altering.{is_own, is_new, has_mark_of, is_foreign}
-use Rattle.local_tables.specs.Resolving.{is_marked, log_reads}
 use Rattle.local_tables.specs.Sweeping.{AllReach, AllOwn, foreign_reads}
 
 -- ---- lists, one more

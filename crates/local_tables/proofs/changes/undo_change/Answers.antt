@@ -1,4 +1,3 @@
-use Rattle.std.proofs.Common.{Bool}
 use Rattle.cell_world.specs.declared.cells.Mark.TheVariants.{Plain}
 use Rattle.local_tables.specs.declared.altering.Work.TheVariants.{ToUndo}
 use Rattle.local_tables.proofs.ChangeTells.{undone_reach, swept_tells, reads_tells, undo_tells}

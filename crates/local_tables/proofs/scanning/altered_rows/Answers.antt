@@ -1,4 +1,4 @@
-use Rattle.std.proofs.Common.{refl, arith, ◌∙◌, sym, Some, None, ap, subst}
+use Rattle.std.proofs.Common.{refl, arith, ◌∙◌, Some, None}
 use Rattle.local_tables.proofs.ScanLaws.{begins_told, lists_on}
 use Rattle.local_tables.proofs.scanning.altered_rows.Goals as goal
 

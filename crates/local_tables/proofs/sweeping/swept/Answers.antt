@@ -1,5 +1,5 @@
 use Rattle.std.proofs.Common.{◌∙◌, arith}
-use Rattle.local_tables.proofs.SweepLaws.{reads_up_to, reads_more, swept_more, swept_all}
+use Rattle.local_tables.proofs.SweepLaws.{reads_up_to, reads_more, swept_more}
 use Rattle.local_tables.proofs.sweeping.swept.Goals as goal
 
 pub returns-in_err-sweep_row-clause-reads : goal.returns-in_err-sweep_row-clause-reads
