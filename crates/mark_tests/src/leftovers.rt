@@ -1,5 +1,5 @@
 //! Rows that earlier operations left, rows of other operations, of another map and beside the hull, and when there is nothing to do.
-use crate::lines::{Line, MAX, NEW, POINT, Shape, are, off, on, part, shape};
+use crate::lines::{Line, MAX, NEW, POINT, Shape, are, exchange, live, off, on};
 use crate::worlds::{Call, after, is_something, made, put_log, put_row, table, world_of};
 use std::alloc::Global;
 use std::test::Fail;
@@ -7,7 +7,7 @@ use world_memory::world::MemoryWorld;
 
 /// Operation 1, which adds [4, 8).
 fn adds() -> Shape {
-    shape(4, 8, None, part(4, 8))
+    exchange(4, 8, None, live(4, 8))
 }
 
 /// In the hull, reaching into it from below and beyond, and beside it: an Old row of operation 3 and a New one of
@@ -92,7 +92,7 @@ fn settling_touches_its_own_marks_alone(rt: HostRuntime) -> Result<(), Fail> {
 
 #[test]
 fn nothing_is_to_be_done(rt: HostRuntime) -> Result<(), Fail> {
-    let deletes = shape(4, 8, part(4, 8), None);
+    let deletes = exchange(4, 8, live(4, 8), None);
     let plain = [on(0, 4, 0, 3), on(4, 8, 0, 0)];
     assert!(rt; !is_something(rt.alloc(), &plain, Call::Undo, &deletes)?);
     assert!(rt; !is_something(rt.alloc(), &plain, Call::Settle, &deletes)?);
@@ -106,7 +106,12 @@ fn rows_of_another_map_stay(rt: HostRuntime) -> Result<(), Fail> {
     let mut world = world_of(rt.alloc(), &[on(4, 8, 0, 3)])?;
     put_row(rt.alloc(), &mut world, b"mm", &on(4, 8, 0, 3))?;
     made(rt.alloc(), &mut world, Call::Mark, &adds())?;
-    assert!(rt; are(&table(rt.alloc(), &mut world)?, &[on(4, 8, 1, NEW), on(4, 8, 0, 3)]));
+    assert!(rt;
+        are(
+            &table(rt.alloc(), &mut world)?,
+            &[on(4, 8, 1, NEW), on(4, 8, 0, 3)]
+        )
+    );
     Ok(())
 }
 
@@ -123,7 +128,7 @@ fn many(alloc: Global) -> Result<MemoryWorld, Fail> {
 #[test]
 fn many_rows_are_undone_in_pieces(rt: HostRuntime) -> Result<(), Fail> {
     let mut world = many(rt.alloc())?;
-    let deletes = shape(0, MAX, part(0, MAX), None);
+    let deletes = exchange(0, MAX, live(0, MAX), None);
     assert!(rt; made(rt.alloc(), &mut world, Call::Undo, &deletes)?);
     assert!(rt; !made(rt.alloc(), &mut world, Call::Undo, &deletes)?);
     assert!(rt; table(rt.alloc(), &mut world)?.len() == 400);

@@ -50,7 +50,7 @@ pub(crate) struct Part {
 }
 
 /// An online mapping at the world's location.
-pub(crate) fn part(low: u8, high: u8) -> Option<Part> {
+pub(crate) fn live(low: u8, high: u8) -> Option<Part> {
     Some(Part {
         low,
         high,
@@ -91,7 +91,7 @@ pub(crate) struct Shape {
 }
 
 /// An operation with at most one old mapping and one new one.
-pub(crate) fn shape(low: u8, high: u8, old: Option<Part>, new: Option<Part>) -> Shape {
+pub(crate) fn exchange(low: u8, high: u8, old: Option<Part>, new: Option<Part>) -> Shape {
     Shape {
         low,
         high,
@@ -105,14 +105,25 @@ pub(crate) fn shape(low: u8, high: u8, old: Option<Part>, new: Option<Part>) -> 
 /// The number of a line: those of different lines differ.
 fn code(line: &Line) -> u64 {
     let bit = if line.online { 1u64 } else { 0u64 };
-    code_of(line.low, line.high, u64::from(line.number), u64::from(line.mark), bit)
+    code_of(
+        line.low,
+        line.high,
+        u64::from(line.number),
+        u64::from(line.mark),
+        bit,
+    )
 }
 
 /// The number of a row with these keys, this maker, this mark and this status.
 pub(crate) fn code_of(low: u8, high: u8, number: u64, mark: u64, bit: u64) -> u64 {
-    let keys = u64::from(low).wrapping_mul(256).wrapping_add(u64::from(high));
+    let keys = u64::from(low)
+        .wrapping_mul(256)
+        .wrapping_add(u64::from(high));
     let made = keys.wrapping_mul(256).wrapping_add(number);
-    made.wrapping_mul(256).wrapping_add(mark).wrapping_mul(2).wrapping_add(bit)
+    made.wrapping_mul(256)
+        .wrapping_add(mark)
+        .wrapping_mul(2)
+        .wrapping_add(bit)
 }
 
 /// Whether these are the numbers of the lines, in order.
