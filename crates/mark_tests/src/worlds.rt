@@ -192,17 +192,28 @@ fn change_at(
     }
 }
 
+fn change_by(
+    alloc: Global,
+    world: &mut MemoryWorld,
+    call: Call,
+    op: &Op,
+) -> Result<Option<Change>, Fail> {
+    let at = location(true)?;
+    match world.locate(&at) {
+        None => Ok(None),
+        Some(site) => Ok(change_at(alloc, world, site, call, op)?),
+    }
+}
+
 fn change_of(
     alloc: Global,
     world: &mut MemoryWorld,
     call: Call,
     shape: &Shape,
 ) -> Result<Option<Change>, Fail> {
-    let op = op_of(shape)?;
-    let at = location(true)?;
-    match world.locate(&at) {
-        None => Ok(None),
-        Some(site) => Ok(change_at(alloc, world, site, call, &op)?),
+    match op_of(shape) {
+        Err(fail) => Err(fail),
+        Ok(op) => change_by(alloc, world, call, &op),
     }
 }
 
