@@ -1,0 +1,4 @@
+//! The steps of a long operation: it begins, goes on stage by stage, is undone, and all are undone when stores open again.
+#![tactic(auto)]
+
+pub mod live;
