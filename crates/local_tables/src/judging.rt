@@ -25,7 +25,7 @@ pub enum Look {
 }
 
 /// Whether a row counts: at most one read of the log, and none for a Plain row.
-fn row_counts<W: World>(alloc: Global, world: &mut W, row: &LocalRow) -> Result<bool, StepFault>
+pub fn row_counts<W: World>(alloc: Global, world: &mut W, row: &LocalRow) -> Result<bool, StepFault>
     ensures found { IfOk result (λ is. IfContents (W.outside world.old).told (λ image. is ≡ counts (global image).log row.now)) }
     ensures reads { (W.outside world.new).global_reads ≤ (W.outside world.old).global_reads + log_reads row.now.mark }
     ensures told { (W.outside world.new).told ≡ (W.outside world.old).told }
