@@ -8,7 +8,7 @@ use std::marker::Model;
 pub const MOST_LIVE: usize = 16;
 
 /// The numbers of live operations, each once, in a fixed array. Contracts see the list.
-#[derive(Clone, Copy)]
+#[derive(Drop)]
 pub struct LiveList {
     count: usize,
     numbers: [u64; 16],
