@@ -1,4 +1,6 @@
 //! The steps of a long operation: it begins, goes on stage by stage, is undone, and all are undone when stores open again.
 #![tactic(auto)]
 
+mod commits;
 pub mod live;
+pub mod undoing;

@@ -1,5 +1,5 @@
 //! Which operations are live: those of which some session has a step ahead.
-ghost use Rattle.std.specs.Prelude.{◌≡◌, ◌<◌, ◌++◌, ◌∷◌, [], length, false};
+ghost use Rattle.std.specs.Prelude.{◌≡◌, ◌<◌, ◌≤◌, ◌++◌, ◌∷◌, [], length, false};
 ghost use Rattle.op_steps.specs.Live.{is_live, all_but};
 
 use std::marker::Model;
@@ -38,7 +38,8 @@ impl LiveList {
 
     /// The numbers, in the order in which they came.
     pub fn as_slice(&self) -> &[u64]
-        ensures { result.now ≡ self.now }
+        ensures list { result.now ≡ self.now }
+        ensures few { length self.now ≤ MOST_LIVE }
     {
         &self.numbers[..self.count]
     }

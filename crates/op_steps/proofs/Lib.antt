@@ -1,0 +1,6 @@
+pub mod Courses
+pub mod Passes
+pub mod Rises
+pub mod Scanned
+pub mod UndoCalls
+pub mod UndoLaws
