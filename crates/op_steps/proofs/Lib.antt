@@ -1,5 +1,6 @@
 pub mod Courses
 pub mod Passes
+pub mod RecoverLaws
 pub mod Rises
 pub mod Scanned
 pub mod UndoCalls

@@ -1,6 +1,7 @@
 -- The calls of undo, one after another.
 use Rattle.std.proofs.Common.{◌≡◌, ◌⊎◌, true, false, refl, sym, ap, ◌∙◌, subst, Some, None, Option, inl, inr, List, [], ◌∷◌}
 use Rattle.std.specs.Prelude.{Result, Ok, Err, IsOk, IsSome, IsErrOf}
+use Rattle.std.specs.FinMap as map
 use Rattle.cell_world.specs.Counts.{Rose}
 use Rattle.std.proofs.lemmas.Option.{same_Some, none-some}
 use Rattle.cell_world.specs.Images.{Image, Place, Global, Shard, Happening, global, after_all}
@@ -24,9 +25,10 @@ use Rattle.global_tables.specs.declared.faults.StepFault.TheVariants as fault
 use Rattle.image_laws.proofs.SiteLaws.{place_of_number}
 use Rattle.local_tables.specs.Altering.{IsSiteOf, to_undo, if_any}
 use Rattle.op_steps.specs.Passing.{Passes, IsTryOf, TriesAt}
-use Rattle.op_steps.specs.Undoing.{PlainsSites, IsPlainAt, IsAttachedAt, DropsRow}
+use Rattle.op_steps.specs.Undoing.{PlainsSites, IsPlainAt, IsAttachedAt, DropsRow, UndoesList, Recovers}
 use Rattle.op_steps.proofs.Passes.{passes_none, passes_found, passes_weaker}
 use Rattle.op_steps.proofs.Rises.{rose_at, rose_global, rose_after}
+use Rattle.op_steps.proofs.RecoverLaws.{none_undone, recovered}
 use Rattle.op_steps.proofs.UndoLaws.{nothing_undone, tried_there, tried_drop}
 
 -- an error is no success
@@ -117,3 +119,17 @@ same_site op o d piece done ok a is was t = subst (λ (x : Option Piece × Optio
 pub other_site : (op : Op) (o : Option Piece) (piece : Piece) (done : Option Piece) (ok : Type 0) (a b : Outside) → o ≡ Some piece → Passes (PlainsOne op piece.location ok) a b → Passes (PlainsBeside op o done ok) a b
 other_site op o piece done ok a b is p = subst (λ x. Passes (PlainsBeside op x done ok) a b) (sym is) (passes_weaker (PlainsOne op piece.location ok) (PlainsBeside op (Some piece) done ok) a b
     (λ image hs f sound logged here d. let r = f sound logged (here piece refl) in record { course = r.course; done = λ k x e. subst (λ l. IsSweptPlain op (locals_at (after_all image hs) l)) (ap (λ (y : Piece). y.location) (same_Some piece x e)) (r.done k) }) p)
+
+-- ---- several operations
+
+pub list_begins : (ops : List Op) (a : Outside) → Passes (UndoesList [] (true ≡ true)) a a
+list_begins ops a = passes_none (UndoesList [] (true ≡ true)) a a refl (later_same a) (contents_all a.told (λ image. UndoesList [] (true ≡ true) image []) none_undone)
+
+-- recovery: the log is read, and what stands there is undone
+pub recovers : (ops : List Op) (ok : Type 0) (a b c : Outside) → b.told ≡ a.told → IsLater a b → IfContents a.told (λ image. ops ≡ map.values (global image).log) → Passes (UndoesList ops ok) b c → Passes (Recovers ok) a c
+recovers ops ok a b c told later found p =
+    passes_found (λ image. ops ≡ map.values (global image).log) (UndoesList ops ok) (Recovers ok) a b c told later found p (λ image hs is u. recovered ops ok image hs is u)
+
+-- or the log couldn't be read
+pub recovers_none : (ok : Type 0) (a b : Outside) → (ok → ⊥) → b.told ≡ a.told → IsLater a b → Passes (Recovers ok) a b
+recovers_none ok a b never told later = passes_none (Recovers ok) a b told later (contents_all a.told (λ image. Recovers ok image []) (λ image sound. record { course = tt; empty = λ k. absurd (never k) }))

@@ -42,9 +42,13 @@ pub data UndoStep (op : Op) (image after : Image) : Type 0 where
   AtSite : UndoesAt op image after → UndoStep op image after
   LogRow : Drops op image after → UndoStep op image after
 
--- a transaction of the undo of some operation
+-- a transaction of the undo of one of these operations
+abbrev pub UndoStepOf : (Op → Type 0) → Image → Image → Type 0
+UndoStepOf These image after = (op : Op) × These op × UndoStep op image after
+
+-- of any operation
 abbrev pub AnyUndoStep : Image → Image → Type 0
-AnyUndoStep image after = (op : Op) × UndoStep op image after
+AnyUndoStep = UndoStepOf (λ op. Unit {0})
 
 -- ---- what calls of undo come to
 
@@ -96,7 +100,7 @@ pub record AreLogged (log : Log) (ops : List Op) : Type 0 where
 
 -- These were undone one after another, at least in part; where all went well their log rows are gone, and the log is else as it was.
 pub record UndoesOps (ops : List Op) (ok : Type 0) (image : Image) (hs : List Happening) : Type 0 where
-  pub course : IsCourse AnyUndoStep image hs
+  pub course : IsCourse (UndoStepOf (IsOneOf ops)) image hs
   pub gone : ok → (global (after_all image hs)).log ≡ without_ops (global image).log ops
 
 -- what undo of these operations makes of a sound image on which they are logged

@@ -132,8 +132,9 @@ pub fn undo_all<W: World>(alloc: Global, world: &mut W, ops: &[Op]) -> Result<()
     ensures cause { IsErrOf result StepFault.Store → StoreRoseBy 1 (W.outside world.old) (W.outside world.new) }
 {
     for op in ops {
-        if let Err(fault) = undo(alloc, world, op) {
-            return Err(fault);
+        match undo(alloc, world, op) {
+            Ok(()) => {}
+            Err(fault) => return Err(fault),
         }
     }
     Ok(())
