@@ -1,3 +1,4 @@
+pub mod ClearLaws
 pub mod Courses
 pub mod Passes
 pub mod RecoverLaws

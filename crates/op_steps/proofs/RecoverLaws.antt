@@ -41,7 +41,7 @@ without-append log [] ys = refl
 without-append log (x ∷ xs) ys = without-append (map.remove log x.number) xs ys
 
 -- a row of another number stands
-without_keeps : (log : Log) (ops : List Op) (k : ℕ) → ((o : Op) → IsOneOf ops o → k ≢ o.number) → map.get (without_ops log ops) k ≡ map.get log k
+pub without_keeps : (log : Log) (ops : List Op) (k : ℕ) → ((o : Op) → IsOneOf ops o → k ≢ o.number) → map.get (without_ops log ops) k ≡ map.get log k
 without_keeps log [] k other = refl
 without_keeps log (o ∷ ops) k other =
     without_keeps (map.remove log o.number) ops k (λ x h. other x (inr h)) ∙ get-remove_other nat_cmp_total exact_unsigned log o.number k (other o (inl refl))
@@ -115,7 +115,7 @@ none_undone image sound l = record { course = tt; gone = λ k. refl }
 
 -- ---- all that are logged
 
-abbrev ByNumber : Op → Op → Type 0
+abbrev pub ByNumber : Op → Op → Type 0
 ByNumber a b = nat_cmp a.number b.number ≡ Less
 
 module _ (log : Log) (keyed : (k : ℕ) → IfSome (map.get log k) (λ op. op.number ≡ k)) where
@@ -156,3 +156,12 @@ recovered ops ok image hs is p sound =
         let number : op.number ≡ n = number_is (global image).log keyed n op e in
         subst (λ m. map.get (without_ops (global image).log (map.values (global image).log)) m ≡ None) number
         (without_gone (global image).log (map.values (global image).log) op (op_there (global image).log keyed op (ap (map.get (global image).log) number ∙ e)))
+
+-- ---- what stands without some of its rows stood
+
+pub without_from : (log : Log) (ops : List Op) (k : ℕ) (op : Op) → map.get (without_ops log ops) k ≡ Some op → map.get log k ≡ Some op
+without_from log [] k op h = h
+without_from log (o ∷ ops) k op h = elim (get-remove_cases nat_cmp_total exact_unsigned log o.number k) [
+  | inl g ↦ absurd (none-some op (sym g.1 ∙ without_from (map.remove log o.number) ops k op h))
+  | inr g ↦ sym g ∙ without_from (map.remove log o.number) ops k op h
+]

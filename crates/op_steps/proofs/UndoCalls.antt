@@ -90,6 +90,10 @@ some_to_do op location site edits result a b c change is e told later tells trie
 pub fault_is : (f : StepFault) → IsErrOf {T = Unit {0}} {E = StepFault} (Err f) fault.Store → f ≡ fault.Store
 fault_is f h = cc
 
+-- of an answer of any type
+pub fault_in : (T : Type 0) (f : StepFault) → IsErrOf {T = T} {E = StepFault} (Err f) fault.Store → f ≡ fault.Store
+fault_in T f h = cc
+
 -- ---- the log row
 
 abbrev pub DropsOne : Op → Type 0 → Image → List Happening → Type 0

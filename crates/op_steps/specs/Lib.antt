@@ -1,3 +1,4 @@
+pub mod Clearing
 pub mod Live
 pub mod Passing
 pub mod Undoing
