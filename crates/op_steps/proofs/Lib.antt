@@ -1,3 +1,4 @@
+pub mod BeginLaws
 pub mod ClearLaws
 pub mod Courses
 pub mod Passes

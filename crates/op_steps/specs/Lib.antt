@@ -1,3 +1,4 @@
+pub mod Beginning
 pub mod Clearing
 pub mod Live
 pub mod Passing

@@ -1,7 +1,9 @@
 //! The steps of a long operation: it begins, goes on stage by stage, is undone, and all are undone when stores open again.
 #![tactic(auto)]
 
+pub mod beginning;
 pub mod clearing;
 mod commits;
 pub mod live;
+pub mod stages;
 pub mod undoing;
