@@ -1,6 +1,12 @@
+pub mod AlteredRows
 pub mod BelowRows
+pub mod ChangeTells
 pub mod KeysBelow
+pub mod NothingToDo
+pub mod ScanLaws
 pub mod SearchTells
 pub mod Searching
+pub mod SitesHere
 pub mod SoundRows
 pub mod StepTells
+pub mod SweepLaws

@@ -57,7 +57,7 @@ abbrev pub Spent : Outside → Site → Text → Text → ℕ → CellKey → Im
 Spent o site name key reads from image = reads + marks_left (store_at o site image).locals name key from ≤ o.global_reads + marks_over (store_at o site image).locals name key
 
 -- what is told of a world is told of it earlier
-moved : (o later : Outside) (site : Site) → later.told ≡ o.told → later.locations ≡ o.locations → (F : Image → Store → Type 0) → IfContents later.told (λ image. F image (store_at later site image)) → IfContents o.told (λ image. F image (store_at o site image))
+pub moved : (o later : Outside) (site : Site) → later.told ≡ o.told → later.locations ≡ o.locations → (F : Image → Store → Type 0) → IfContents later.told (λ image. F image (store_at later site image)) → IfContents o.told (λ image. F image (store_at o site image))
 moved o later site told locations F h =
     subst (λ t. IfContents t (λ image. F image (store_at o site image))) told
     (subst (λ (ls : List Text). IfContents later.told (λ image. F image (unwrap_or (option_map image.at (place_at ls site.0)) empty_store))) locations h)

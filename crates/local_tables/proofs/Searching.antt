@@ -50,7 +50,7 @@ is_not false e = refl
 -- ---- how many pass a test
 
 module _ {A : Type 0} (f g : A → Bool) where
-  longer : (x : A) (xs ys : List A) (a b : Bool) → (a ≡ true → b ≡ true) → length xs ≤ length ys → length (cond a (x ∷ xs) xs) ≤ length (cond b (x ∷ ys) ys)
+  pub longer : (x : A) (xs ys : List A) (a b : Bool) → (a ≡ true → b ≡ true) → length xs ≤ length ys → length (cond a (x ∷ xs) xs) ≤ length (cond b (x ∷ ys) ys)
   longer x xs ys true b h le = by b (h refl)
     where
       by : (b : Bool) → b ≡ true → length (x ∷ xs) ≤ length (cond b (x ∷ ys) ys)

@@ -1,13 +1,15 @@
 -- Which local rows of a site the transactions of an operation alter, and the changes that they make.
-use Rattle.std.specs.Prelude.{◌≡◌, ℕ, Bool, true, false, ◌&&◌, not, ◌==◌, List, [], ◌∷◌, length, filter, Option, Some, None, if◌then◌else◌}
+use Rattle.std.specs.Prelude.{◌≡◌, ℕ, Bool, true, false, ◌&&◌, ◌||◌, not, ◌==◌, List, [], ◌∷◌, length, filter, Option, Some, None}
 use Rattle.std.specs.FinMap as fin
 use Rattle.cell_world.specs.Texts.{Text}
-use Rattle.cell_world.specs.Keys.{below}
+use Rattle.cell_world.specs.Keys.{same, below, before, low_of}
 use Rattle.cell_world.specs.Stores.{Log, Locals}
 use Rattle.cell_world.specs.Images.{Shard}
 use Rattle.cell_world.specs.Outside.{Outside, place_at}
 use Rattle.cell_world.specs.Sweep.{reaches}
 use Rattle.cell_world.specs.declared.operations.Op.{Op}
+use Rattle.cell_world.specs.declared.spans.Span.{Span}
+use Rattle.cell_world.specs.declared.spans.Span.TheVariants.{Range, Point}
 use Rattle.cell_world.specs.declared.cells.Site.{Site}
 use Rattle.cell_world.specs.declared.cells.LocalRow.{LocalRow}
 use Rattle.cell_world.specs.declared.cells.Mark.{Mark}
@@ -30,6 +32,11 @@ abbrev pub is_old_of : ℕ → Mark → Bool
 is_old_of number Plain = false
 is_old_of number (Old p) = p == number
 is_old_of number New = false
+
+abbrev pub is_new : Mark → Bool
+is_new Plain = false
+is_new (Old p) = false
+is_new New = true
 
 abbrev pub is_own : ℕ → LocalRow → Mark → Bool
 is_own number row Plain = false
@@ -94,8 +101,17 @@ first_map ToMark op = op.map
 first_map ToUndo op = op.map
 first_map ToSettle op = 65 ∷ []
 
+-- a span with this low key begins past the end of the hull
+abbrev pub begins_past : Span → Text → Bool
+begins_past (Range low high) key = not (before key high)
+begins_past (Point at) key = below at key
+
+-- the row is of a later map, or begins past the end of the hull
+abbrev pub is_past_hull : Op → LocalRow → Bool
+is_past_hull op row = below op.map row.map || (same row.map op.map && begins_past op.hull (low_of row.span))
+
 -- it alters neither this row nor one after it
 abbrev pub is_past : Work → Op → LocalRow → Bool
-is_past ToMark op row = below op.map row.map
-is_past ToUndo op row = below op.map row.map
+is_past ToMark op row = is_past_hull op row
+is_past ToUndo op row = is_past_hull op row
 is_past ToSettle op row = false

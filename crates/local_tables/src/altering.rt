@@ -2,13 +2,14 @@
 ghost use Rattle.std.specs.Prelude.{◌≡◌, []};
 ghost use Rattle.cell_world.specs.Sweep.{reaches};
 ghost use Rattle.cell_world.specs.declared.cells.CellKey.{CellKey};
-ghost use Rattle.local_tables.specs.Altering.{alters, first_map, has_mark_of, is_old_of, is_past};
+ghost use Rattle.local_tables.specs.Altering.{alters, begins_past, first_map, has_mark_of, is_new, is_old_of, is_past, is_past_hull};
 ghost use Rattle.local_tables.specs.Resolving.{is_marked};
 
 use cell_world::cells::{CellKey, LocalRow, Mark};
 use cell_world::names::Name;
 use cell_world::norm_keys::NormKey;
 use cell_world::operations::Op;
+use cell_world::spans::{High, Span};
 
 /// A local transaction of an operation.
 #[derive(Clone, Copy)]
@@ -28,6 +29,25 @@ fn reaches(op: &Op, row: &LocalRow) -> bool
     row.map.cmp(&op.map).is_eq() && row.span.overlaps(&op.hull)
 }
 
+/// Whether a span with this low key begins past the end of the hull.
+fn begins_past(hull: &Span, low: &NormKey) -> bool
+    ensures { result ≡ begins_past hull.now low.now }
+{
+    match hull {
+        Span::Range(_, High::At(high)) => !low.cmp(high).is_lt(),
+        Span::Range(_, High::Max) => false,
+        Span::Point(at) => at.cmp(low).is_lt(),
+    }
+}
+
+/// Whether the row is of a later map than the operation's, or begins past the end of its hull.
+fn is_past_hull(op: &Op, row: &LocalRow) -> bool
+    ensures { result ≡ is_past_hull op.now row.now }
+{
+    op.map.cmp(&row.map).is_lt()
+        || (row.map.cmp(&op.map).is_eq() && begins_past(&op.hull, row.span.low()))
+}
+
 fn is_old_of(number: u64, mark: Mark) -> bool
     ensures { result ≡ is_old_of number mark }
 {
@@ -44,6 +64,17 @@ fn is_marked(mark: Mark) -> bool
     match mark {
         Mark::Plain => false,
         Mark::Old(_) => true,
+        Mark::New => true,
+    }
+}
+
+/// Whether the mark is New.
+pub fn is_new(mark: Mark) -> bool
+    ensures { result ≡ is_new mark }
+{
+    match mark {
+        Mark::Plain => false,
+        Mark::Old(_) => false,
         Mark::New => true,
     }
 }
@@ -94,8 +125,8 @@ impl Work {
         ensures { result ≡ is_past self op.now row.now }
     {
         match self {
-            Work::ToMark => op.map.cmp(&row.map).is_lt(),
-            Work::ToUndo => op.map.cmp(&row.map).is_lt(),
+            Work::ToMark => is_past_hull(op, row),
+            Work::ToUndo => is_past_hull(op, row),
             Work::ToSettle => false,
         }
     }

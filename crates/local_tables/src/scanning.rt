@@ -17,6 +17,22 @@ use std::alloc::Global;
 /// How many cells are scanned at once.
 const PIECE_SIZE: u32 = 256;
 
+/// Puts what the cell says at the end.
+fn push_read<T: Row>(cell: &Cell, rows: &mut Vec<T>) -> Result<(), StepFault>
+    ensures pushed { IfOk result (λ done. (row : T) × (cell.now ≡ T.cell_of row) × (rows.new.items ≡ rows.old.items ++ row ∷ [])) }
+    ensures memory { result ≡ Err StepFault.Store → ⊥ }
+{
+    match T::read(cell) {
+        None => Err(StepFault::Memory),
+        Some(row) => {
+            if rows.push(row).is_err() {
+                return Err(StepFault::Memory);
+            }
+            Ok(())
+        }
+    }
+}
+
 /// Puts the row of the cell at the end, if it is altered.
 fn push_row(work: Work, op: &Op, cell: &Cell, rows: &mut Vec<LocalRow>) -> Result<(), StepFault>
     ensures pushed { IfOk result (λ done. rows.new.items ≡ rows.old.items ++ altered_in work op.now (cell.now ∷ [])) }
@@ -24,8 +40,8 @@ fn push_row(work: Work, op: &Op, cell: &Cell, rows: &mut Vec<LocalRow>) -> Resul
 {
     match cell {
         Cell::Local(row) => {
-            if work.alters(op, row) && rows.push(*row).is_err() {
-                return Err(StepFault::Memory);
+            if work.alters(op, row) {
+                return push_read(cell, rows);
             }
             Ok(())
         }

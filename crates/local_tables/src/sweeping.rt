@@ -10,7 +10,7 @@ ghost use Rattle.image_laws.specs.RowEdits.{edit_to, edits_by};
 ghost use Rattle.local_tables.specs.Altering.{has_mark_of, is_foreign};
 ghost use Rattle.local_tables.specs.Sweeping.{AllReach, AllOwn, foreign_reads};
 
-use crate::altering::has_mark_of;
+use crate::altering::{has_mark_of, is_new};
 use crate::judging::row_counts;
 use cell_world::cells::{Cell, LocalRow, Mark};
 use cell_world::changes::Change;
@@ -57,7 +57,7 @@ fn counts_beside<W: World>(
     ensures cause { IsErrOf result StepFault.Store → Rose ((W.outside world.old).faults_at 0) ((W.outside world.new).faults_at 0) }
 {
     if has_mark_of(number, row) {
-        return Ok(row.mark != Mark::New);
+        return Ok(!is_new(row.mark));
     }
     row_counts(alloc, world, row)
 }
@@ -109,7 +109,7 @@ pub fn settled(alloc: Global, number: u64, rows: &[LocalRow]) -> Result<Change, 
 {
     let mut change = Change::empty(alloc);
     for row in rows {
-        push_edit(row, Mark::Plain, row.mark == Mark::New, &mut change)?;
+        push_edit(row, Mark::Plain, is_new(row.mark), &mut change)?;
     }
     Ok(change)
 }
