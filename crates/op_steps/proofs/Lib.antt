@@ -1,9 +1,9 @@
 pub mod BeginLaws
 pub mod ClearLaws
 pub mod Courses
+pub mod MeaningLaws
 pub mod Passes
 pub mod RecoverLaws
 pub mod Rises
-pub mod Scanned
 pub mod UndoCalls
 pub mod UndoLaws

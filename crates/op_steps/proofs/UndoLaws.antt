@@ -32,7 +32,7 @@ use Rattle.local_tables.specs.declared.altering.Work.TheVariants.{ToUndo}
 use Rattle.op_steps.specs.Passing.{IsCourse, IsTryOf}
 use Rattle.op_steps.specs.Undoing.{UndoesAt, Drops, DropsRow, UndoStep, AtSite, LogRow, IsPlainAt, IsAttachedAt, PlainsSites, UndoesOp}
 use Rattle.op_steps.proofs.Courses.{course_keeps, course_then, course_weaker, after_then}
-use Rattle.op_steps.proofs.Scanned.{undo_scanned}
+use Rattle.local_tables.proofs.AlteredRows.{undo_scanned}
 
 -- ---- what undo at sites leaves of an image
 

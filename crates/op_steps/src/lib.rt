@@ -4,6 +4,7 @@
 pub mod beginning;
 pub mod clearing;
 mod commits;
+pub mod laws;
 pub mod live;
 pub mod stages;
 pub mod undoing;
