@@ -12,7 +12,8 @@ pub fn conflicts(reach: &Reach, logged: &Op) -> bool
     match reach {
         Reach::Nothing => false,
         Reach::Part(name, span) => name.cmp(&logged.map).is_eq() && span.overlaps(&logged.hull),
-        Reach::Shard(name, location) => name.cmp(&logged.map).is_eq() && is_site_of(logged, location),
+        Reach::Shard(name, location) => name.cmp(&logged.map).is_eq()
+            && is_site_of(logged, location),
         Reach::Whole(location) => is_site_of(logged, location),
     }
 }

@@ -17,11 +17,10 @@ pub struct Sites {
     pub two: Option<Location>,
 }
 
-/// The sites of an operation: those of its mappings, and of the job that it puts, each once. It has at most two, as each operation has that is lawful on a sound image. Takes no memory.
+/// The sites of an operation: those of its mappings, and of the job that it puts, each once, where it has at most two, as each operation has that is lawful on a sound image. Takes no memory.
 pub fn sites_of(op: &Op) -> Sites
-    requires { AreAtMostTwo (operation.sites_of op.now) }
-    ensures all { (location : Text) → IsOneOf (locations_in result) location ↔ IsOneOf (operation.sites_of op.now) location }
-    ensures once { AreInOrder result }
+    ensures all { AreAtMostTwo (operation.sites_of op.now) → (location : Text) → IsOneOf (locations_in result) location ↔ IsOneOf (operation.sites_of op.now) location }
+    ensures once { AreAtMostTwo (operation.sites_of op.now) → AreInOrder result }
 {
     let none = Sites {
         one: None,
@@ -110,7 +109,8 @@ fn is_of_extra(extra: &Extra, location: &Location) -> bool
 {
     match extra {
         Extra::None => false,
-        Extra::JobPut(job) => location.cmp(&job.source).is_eq() || location.cmp(&job.target).is_eq(),
+        Extra::JobPut(job) => location.cmp(&job.source).is_eq()
+            || location.cmp(&job.target).is_eq(),
         Extra::JobDrop(_) => false,
     }
 }
@@ -119,5 +119,7 @@ fn is_of_extra(extra: &Extra, location: &Location) -> bool
 pub fn is_site_of(op: &Op, location: &Location) -> bool
     ensures { result ≡ is_among (operation.sites_of op.now) location.now }
 {
-    is_at_some(&op.olds, location) || is_at_some(&op.news, location) || is_of_extra(&op.extra, location)
+    is_at_some(&op.olds, location)
+        || is_at_some(&op.news, location)
+        || is_of_extra(&op.extra, location)
 }

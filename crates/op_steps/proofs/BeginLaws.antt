@@ -111,7 +111,7 @@ edits_stand op made next edits image m e n = e ∙ ap (λ x. log_edits x next) m
 pub logs_made : (op made : Op) (next : Counters) (edits : List Edit) (a b : Outside) → made ≡ numbered op next.operation → edits ≡ log_edits made next → Passes (λ image hs. hs ≡ Committed Global edits true ∷ []) a b → Passes (LogsUnder op next (Ok made)) a b
 logs_made op made next edits a b m e p = passes_weaker (λ image hs. hs ≡ Committed Global edits true ∷ []) (LogsUnder op next (Ok made)) a b
     (λ image hs h n sound lawful below clear. subst (λ x. HasLogged op x image hs) (sym (m ∙ ap (λ (x : Counters). numbered op x.operation) n))
-      (log_made op image lawful below clear hs (h ∙ ap (λ es. Committed Global es true ∷ []) (edits_stand op made next edits image m e n)))) p
+    (log_made op image lawful below clear hs (h ∙ ap (λ es. Committed Global es true ∷ []) (edits_stand op made next edits image m e n)))) p
 
 pub logs_failed : (op made : Op) (next : Counters) (edits : List Edit) (f : StepFault) (a b : Outside) → made ≡ numbered op next.operation → edits ≡ log_edits made next → TriesAt Global edits (Err f) a b → Passes (LogsUnder op next (Err f)) a b
 logs_failed op made next edits f a b m e p = passes_weaker (λ image hs. IsTryOf Global edits (Err f) hs) (LogsUnder op next (Err f)) a b

@@ -108,10 +108,13 @@ module _ (live : List ℕ) (reach : Reach) (image : Image) (sound : Sound image)
     way_cleared hs u = record {
       none = λ op h. none op (there op h);
       course = conflicts_undone (true ≡ true) hs u;
-      clear = λ op h. let was : HasLog (global image).log op = without_from (global image).log (filter (conflicts reach) ops) op.number op (subst (λ log. HasLog log op) log_is h) in (was, elim (cases_Bool (conflicts reach op)) [
-        | inr t ↦ t
-        | inl t ↦ absurd (none-some op (sym (without_gone (global image).log (filter (conflicts reach) ops) op (from_filter (conflicts reach) ops op (there op was) t)) ∙ subst (λ log. HasLog log op) log_is h))
-      ]);
+      clear = λ op h. let was : HasLog (global image).log op = without_from (global image).log (filter (conflicts reach) ops) op.number op (subst (λ log. HasLog log op) log_is h) in (
+        was,
+        elim (cases_Bool (conflicts reach op)) [
+          | inr t ↦ t
+          | inl t ↦ absurd (none-some op (sym (without_gone (global image).log (filter (conflicts reach) ops) op (from_filter (conflicts reach) ops op (there op was) t)) ∙ subst (λ log. HasLog log op) log_is h))
+        ],
+      );
       kept = λ op h e. subst (λ log. HasLog log op) (sym log_is) (without_keeps (global image).log (filter (conflicts reach) ops) op.number (apart op h e) ∙ h);
     }
       where

@@ -48,7 +48,7 @@ passes_then P Q R a b c p q both = record {
   each = contents_weaker a.told (λ image. P image p.happened × Q (after_all image p.happened) q.happened) (λ image. R image (p.happened ++ q.happened))
       (λ image h. both image p.happened q.happened h.0 h.1)
       (contents_both a.told (λ image. P image p.happened) (λ image. Q (after_all image p.happened) q.happened) p.each
-        (contents_back a.told p.happened (λ image. Q image q.happened) (subst (λ t. IfContents t (λ image. Q image q.happened)) p.told q.each)));
+      (contents_back a.told p.happened (λ image. Q image q.happened) (subst (λ t. IfContents t (λ image. Q image q.happened)) p.told q.each)));
   later = later_then a b c p.later q.later;
 }
 

@@ -17,11 +17,11 @@ gathered op one both all e f g =
     ∙ with_sites-append nowhere (locations_of (listed op.olds) ++ locations_of (listed op.news)) (sites_of_extra op.extra)
 
 pub returns-clause-all : goal.returns-clause-all
-returns-clause-all c location =
+returns-clause-all c most location =
     let e = gathered c.args.op.now c.with_pieces-olds.result c.with_pieces-both.result c.with_extra.result c.with_pieces-olds.ensures c.with_pieces-both.ensures c.with_extra.ensures in
-    (λ h. gathered_back (sites_of c.args.op.now) c.requires location (subst (λ (s : Sites). IsOneOf (locations_in s) location) e h), λ h. subst (λ (s : Sites). IsOneOf (locations_in s) location) (sym e) (gathered_forth (sites_of c.args.op.now) c.requires location h))
+    (λ h. gathered_back (sites_of c.args.op.now) most location (subst (λ (s : Sites). IsOneOf (locations_in s) location) e h), λ h. subst (λ (s : Sites). IsOneOf (locations_in s) location) (sym e) (gathered_forth (sites_of c.args.op.now) most location h))
 
 pub returns-clause-once : goal.returns-clause-once
-returns-clause-once c =
+returns-clause-once c most =
     let e = gathered c.args.op.now c.with_pieces-olds.result c.with_pieces-both.result c.with_extra.result c.with_pieces-olds.ensures c.with_pieces-both.ensures c.with_extra.ensures in
-    subst AreInOrder (sym e) (gathered_order (sites_of c.args.op.now) c.requires)
+    subst AreInOrder (sym e) (gathered_order (sites_of c.args.op.now) most)
