@@ -1,6 +1,8 @@
 pub mod BeginLaws
 pub mod ClearLaws
+pub mod CommitLaws
 pub mod Courses
+pub mod MarkLaws
 pub mod MeaningLaws
 pub mod Passes
 pub mod RecoverLaws

@@ -1,3 +1,4 @@
+pub mod Advancing
 pub mod Beginning
 pub mod Clearing
 pub mod Live

@@ -3,8 +3,10 @@
 
 pub mod beginning;
 pub mod clearing;
+pub mod committing;
 mod commits;
 pub mod laws;
 pub mod live;
 pub mod stages;
+pub mod stepping;
 pub mod undoing;
