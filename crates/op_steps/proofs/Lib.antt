@@ -7,5 +7,6 @@ pub mod MeaningLaws
 pub mod Passes
 pub mod RecoverLaws
 pub mod Rises
+pub mod SettleLaws
 pub mod UndoCalls
 pub mod UndoLaws

@@ -7,6 +7,7 @@ pub mod committing;
 mod commits;
 pub mod laws;
 pub mod live;
+pub mod settling;
 pub mod stages;
 pub mod stepping;
 pub mod undoing;
