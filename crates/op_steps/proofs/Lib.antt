@@ -1,3 +1,4 @@
+pub mod AdvanceLaws
 pub mod BeginLaws
 pub mod ClearLaws
 pub mod CommitLaws

@@ -156,7 +156,7 @@ module _ (op : Op) (one two done : Option Piece) (ok : Type 0) (image : Image) (
       let u = course_stays op (after_all image hs) gs s.sound s.logged t.course in
       record { course = course_then (UndoesAt op) image hs gs r.course t.course; done = λ k. subst BothPlain (after_then image hs gs) (λ x e. u.plain x.location (r.done refl x e), t.done k) }
 
-one_listed : (one two : Option Piece) (p : Piece) → one ≡ Some p → IsOneOf (option_to_list one ++ option_to_list two) p
+pub one_listed : (one two : Option Piece) (p : Piece) → one ≡ Some p → IsOneOf (option_to_list one ++ option_to_list two) p
 one_listed None two p e = cc
 one_listed (Some x) two p e = inl (same_Some x p e)
 

@@ -1,6 +1,7 @@
 //! The steps of a long operation: it begins, goes on stage by stage, is undone, and all are undone when stores open again.
 #![tactic(auto)]
 
+pub mod advancing;
 pub mod beginning;
 pub mod clearing;
 pub mod committing;
