@@ -102,15 +102,15 @@ stays_committed op image now c s = record {
 pub settle_on : (op : Op) (ok : Type 0) (a b : Outside) → Passes (SettlesAll op ok) a b → Passes (Advances op Committed ok) a b
 settle_on op ok a b p = passes_weaker (SettlesAll op ok) (Advances op Committed ok) a b
     (λ image hs f sound c.
-      let r = f sound c.sites c.known c.out.0 in
-      let s = course_clean op image hs sound r.course in
-      let now = stays_committed op image (after_all image hs) c s in
-      record {
-        course = course_weaker (SettlesAt op) (AdvanceStep op) (λ i x t. Settling t) image hs r.course;
-        few = r.few;
-        reached = λ k. (now, (now.out, all_from (λ l. IsAttachedIn (after_all image hs) l → HasNoMark op (locals_at (after_all image hs) l)) (sites_of op) (λ l h at. r.clean k l h (attached_before op image (after_all image hs) s l at))));
-        committed = λ e k. cc;
-      }) p
+    let r = f sound c.sites c.known c.out.0 in
+    let s = course_clean op image hs sound r.course in
+    let now = stays_committed op image (after_all image hs) c s in
+    record {
+      course = course_weaker (SettlesAt op) (AdvanceStep op) (λ i x t. Settling t) image hs r.course;
+      few = r.few;
+      reached = λ k. (now, (now.out, all_from (λ l. IsAttachedIn (after_all image hs) l → HasNoMark op (locals_at (after_all image hs) l)) (sites_of op) (λ l h at. r.clean k l h (attached_before op image (after_all image hs) s l at))));
+      committed = λ e k. cc;
+    }) p
 
 pub stay_settled : (op : Op) (a : Outside) → Passes (Advances op Settled (true ≡ true)) a a
 stay_settled op a = passes_none (Advances op Settled (true ≡ true)) a a refl (later_same a)

@@ -52,7 +52,7 @@ edits_all a b c d e xs ys zs ws p q r s t =
 -- ---- all marks
 
 -- an old, and a new, is at the site of the first one
-at_one : (one two : Option Piece) → (is_some one || is_none two) ≡ true → AreTogether (option_to_list one ++ option_to_list two) → (p : Piece) → IsOneOf (option_to_list one ++ option_to_list two) p → IsOneOf (locations_of (option_to_list one)) p.location
+pub at_one : (one two : Option Piece) → (is_some one || is_none two) ≡ true → AreTogether (option_to_list one ++ option_to_list two) → (p : Piece) → IsOneOf (option_to_list one ++ option_to_list two) p → IsOneOf (locations_of (option_to_list one)) p.location
 at_one None None f t p m = absurd m
 at_one None (Some x) f t p m = cc
 at_one (Some a) two f t p m = inl (t.one a (inl refl) p m)
@@ -61,7 +61,7 @@ module _ (image : Image) (op : Op) (sound : Sound image) (w : IsUnderWay image o
   abbrev law : Lawful image op
   law = sound.logged.lawful op w.logged
 
-  all_marked : Marked image op TargetDone
+  pub all_marked : Marked image op TargetDone
   all_marked = target_done image sound op w.logged
       (λ old h. w.done old.location (in_second (locations_of (option_to_list op.news.one)) (locations_of (option_to_list op.olds.one)) old.location (at_one op.olds.one op.olds.two law.olds_in_order (together (rows_at image) (listed op.olds) (listed op.news) law.shape).0 old h)))
       (λ new h. w.done new.location (in_first (locations_of (option_to_list op.news.one)) (locations_of (option_to_list op.olds.one)) new.location (at_one op.news.one op.news.two law.news_in_order (together (rows_at image) (listed op.olds) (listed op.news) law.shape).1 new h)))

@@ -1,4 +1,5 @@
 pub mod AdvanceLaws
+pub mod AdvanceMeaning
 pub mod BeginLaws
 pub mod ClearLaws
 pub mod CommitLaws

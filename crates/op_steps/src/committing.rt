@@ -91,11 +91,7 @@ fn commit_change(alloc: Global, op: &Op) -> Result<Change, Memory>
 }
 
 /// Commits an operation that has all its marks.
-pub fn commit_operation<W: World>(
-    alloc: Global,
-    world: &mut W,
-    op: &Op,
-) -> Result<(), StepFault>
+pub fn commit_operation<W: World>(alloc: Global, world: &mut W, op: &Op) -> Result<(), StepFault>
     ensures passes { Passes (λ image hs. Sound image → IsUnderWay image op.now (sites_with op.now.news.one op.now.olds.one) → Commits op.now (IsOk result) image hs) (W.outside world.old) (W.outside world.new) }
     ensures cause { IsErrOf result StepFault.Store → StoreRoseBy 1 (W.outside world.old) (W.outside world.new) }
 {

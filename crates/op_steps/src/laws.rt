@@ -1,9 +1,12 @@
-//! What the transactions of undo and of a beginning leave of the stores, at each moment. Each law is the contract of a function that does nothing.
-ghost use Rattle.std.specs.Prelude.{◌≡◌, ℕ, List};
-ghost use Rattle.cell_world.specs.Images.{Image, Happening};
+//! What the transactions of operations leave of the stores, at each moment. Each law is the contract of a function that does nothing.
+ghost use Rattle.std.specs.Prelude.{◌≡◌, ◌⊎◌, ℕ, List};
+ghost use Rattle.cell_world.specs.Images.{Image, Happening, global};
+ghost use Rattle.cell_world.specs.Marked.{Marked, committed};
 ghost use Rattle.cell_world.specs.Meaning.{meaning};
 ghost use Rattle.cell_world.specs.Sound.{Sound};
 ghost use Rattle.cell_world.specs.declared.operations.Op.{Op};
+ghost use Rattle.cell_world.specs.declared.operations.StageName.{StageName};
+ghost use Rattle.op_steps.specs.Advancing.{AdvanceStep, AtStage};
 ghost use Rattle.op_steps.specs.Beginning.{BeginStep};
 ghost use Rattle.op_steps.specs.Passing.{AtEach, IsCourse};
 ghost use Rattle.op_steps.specs.Undoing.{AnyUndoStep, UndoStep};
@@ -17,4 +20,16 @@ pub fn undo_keeps_sound_and_meaning()
 /// While an operation begins, wherever that stops, each image is sound and stands for the same.
 pub fn beginning_keeps_sound_and_meaning()
     ensures { (live : List ℕ) (op : Op) (image : Image) → Sound image → (hs : List Happening) → IsCourse (BeginStep live op) image hs → AtEach (λ now. Sound now × (meaning now ≡ meaning image)) image hs }
+{}
+
+/// While an operation goes on, wherever that stops, each image is sound. What the stores stand for stays but at the commit, which puts the new mappings in place of the old ones and puts the job.
+pub fn advancing_keeps_sound()
+    ensures sound { (op : Op) (image : Image) → Sound image → (hs : List Happening) → IsCourse (AdvanceStep op) image hs → AtEach Sound image hs }
+    ensures meaning { (op : Op) (image : Image) → Sound image → (after : Image) → AdvanceStep op image after →
+        (meaning after ≡ meaning image) ⊎ (meaning after ≡ record (meaning image) { mappings = (committed (global image) op).mappings; jobs = (committed (global image) op).jobs }) }
+{}
+
+/// What is carried at a stage is what the cells say of it: the operation is marked so.
+pub fn stages_are_marked()
+    ensures { (op : Op) (name : StageName) (image : Image) → Sound image → AtStage op name image → Marked image op name }
 {}

@@ -4,8 +4,8 @@
 pub mod advancing;
 pub mod beginning;
 pub mod clearing;
-pub mod committing;
 mod commits;
+pub mod committing;
 pub mod laws;
 pub mod live;
 pub mod settling;

@@ -26,11 +26,7 @@ use op_log::sites::sites_of;
 use std::alloc::Global;
 
 /// Whether the site is attached, by one read.
-fn is_attached_now<W: World>(
-    alloc: Global,
-    world: &mut W,
-    at: &Location,
-) -> Result<bool, StepFault>
+fn is_attached_now<W: World>(alloc: Global, world: &mut W, at: &Location) -> Result<bool, StepFault>
     ensures found { IfOk result (λ attached. IfContents (W.outside world.old).told (λ image. attached ≡ is_attached (map.get (global image).away at.now))) }
     ensures told { (W.outside world.new).told ≡ (W.outside world.old).told }
     ensures later { IsLater (W.outside world.old) (W.outside world.new) }
