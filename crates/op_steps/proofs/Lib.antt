@@ -10,5 +10,6 @@ pub mod Passes
 pub mod RecoverLaws
 pub mod Rises
 pub mod SettleLaws
+pub mod StagesStay
 pub mod UndoCalls
 pub mod UndoLaws

@@ -1,13 +1,15 @@
 //! What the transactions of operations leave of the stores, at each moment. Each law is the contract of a function that does nothing.
-ghost use Rattle.std.specs.Prelude.{◌≡◌, ◌⊎◌, ℕ, List};
+ghost use Rattle.std.specs.Prelude.{◌≡◌, ◌≢◌, ◌⊎◌, ℕ, List};
 ghost use Rattle.cell_world.specs.Images.{Image, Happening, global};
 ghost use Rattle.cell_world.specs.Marked.{Marked, committed};
 ghost use Rattle.cell_world.specs.Meaning.{meaning};
 ghost use Rattle.cell_world.specs.Sound.{Sound};
 ghost use Rattle.cell_world.specs.declared.operations.Op.{Op};
 ghost use Rattle.cell_world.specs.declared.operations.StageName.{StageName};
+ghost use Rattle.cell_world.specs.declared.operations.Reach.{Reach};
+ghost use Rattle.op_log.specs.ShortChanges.{ShortChange};
 ghost use Rattle.op_steps.specs.Advancing.{AdvanceStep, AtStage};
-ghost use Rattle.op_steps.specs.Beginning.{BeginStep};
+ghost use Rattle.op_steps.specs.Beginning.{BeginStep, Logs};
 ghost use Rattle.op_steps.specs.Passing.{AtEach, IsCourse};
 ghost use Rattle.op_steps.specs.Undoing.{AnyUndoStep, UndoStep};
 
@@ -32,4 +34,12 @@ pub fn advancing_keeps_sound()
 /// What is carried at a stage is what the cells say of it: the operation is marked so.
 pub fn stages_are_marked()
     ensures { (op : Op) (name : StageName) (image : Image) → Sound image → AtStage op name image → Marked image op name }
+{}
+
+/// What is carried of an operation at a stage stays while another one goes on, is undone, or begins, and through each short change and each row that is put or deleted. Marked at a stage, at Settled too, it stays so; no mark of it comes to another site.
+pub fn others_leave_stages()
+    ensures goes_on { (op other : Op) (name : StageName) (image after : Image) → Sound image → other.number ≢ op.number → AtStage op name image → AdvanceStep other image after → AtStage op name after }
+    ensures undone { (op other : Op) (name : StageName) (image after : Image) → Sound image → other.number ≢ op.number → AtStage op name image → UndoStep other image after → AtStage op name after }
+    ensures begins { (op other : Op) (name : StageName) (image after : Image) → Sound image → AtStage op name image → Logs other image after → AtStage op name after }
+    ensures short { (op : Op) (name : StageName) (reached : Reach) (image after : Image) → AtStage op name image → ShortChange image reached after → AtStage op name after }
 {}
