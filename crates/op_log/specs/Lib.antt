@@ -1,0 +1,2 @@
+pub mod ShortChanges
+pub mod Sites

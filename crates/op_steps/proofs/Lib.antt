@@ -1,0 +1,15 @@
+pub mod AdvanceLaws
+pub mod AdvanceMeaning
+pub mod BeginLaws
+pub mod ClearLaws
+pub mod CommitLaws
+pub mod Courses
+pub mod MarkLaws
+pub mod MeaningLaws
+pub mod Passes
+pub mod RecoverLaws
+pub mod Rises
+pub mod SettleLaws
+pub mod StagesStay
+pub mod UndoCalls
+pub mod UndoLaws

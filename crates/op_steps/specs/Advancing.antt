@@ -1,0 +1,137 @@
+-- How an operation goes on, stage by stage.
+use Rattle.std.specs.Prelude.{◌≡◌, ◌≤◌, ℕ, IsTrue, List, [], ◌∷◌, ◌++◌, length, Option, Some, None, option_to_list}
+use Rattle.std.specs.FinMap as map
+use Rattle.cell_world.specs.Texts.{Text}
+use Rattle.cell_world.specs.Keys.{is_among}
+use Rattle.cell_world.specs.Lists.{IsOneOf}
+use Rattle.cell_world.specs.Stores.{Locals}
+use Rattle.cell_world.specs.Images.{Image, Happening, global, after_all}
+use Rattle.cell_world.specs.Operations.{locations_of, sites_of}
+use Rattle.cell_world.specs.Sound.{Sound, HasLog, IsAttachedIn, locals_at}
+use Rattle.cell_world.specs.Marked.{Marked, HasNoMark, IsOutOfLog, mark_tables, NoMarksElsewhere, committed_image}
+use Rattle.cell_world.specs.UnderWay.{IsUnborn, IsUnderWay}
+use Rattle.cell_world.specs.declared.operations.Op.{Op}
+use Rattle.cell_world.specs.declared.operations.Piece.{Piece}
+use Rattle.cell_world.specs.declared.operations.StageName.{StageName}
+use Rattle.cell_world.specs.declared.operations.StageName.TheVariants.{Logged, SourceDone, TargetDone, Committed, Settled}
+use Rattle.image_laws.specs.LocalSteps.{IsStepped, IsSettled, with_locals}
+use Rattle.op_log.specs.Sites.{AreAtMostTwo}
+use Rattle.op_steps.specs.Passing.{IsCourse}
+
+-- ---- the transactions
+
+-- At an attached site where the operation is unborn its local step is made.
+pub record StepsAt (op : Op) (image after : Image) : Type 0 where
+  pub logged : HasLog (global image).log op
+  pub location : Text
+  pub here : IsAttachedIn image location
+  pub unborn : IsUnborn op.number (locals_at image location)
+  pub last : Locals
+  pub stepped : IsStepped (global image).log op location (locals_at image location) last
+  pub is : after ≡ with_locals image location last
+
+-- With all its marks made it is committed.
+pub record CommitsOp (op : Op) (image after : Image) : Type 0 where
+  pub logged : HasLog (global image).log op
+  pub marked : Marked image op TargetDone
+  pub is : after ≡ committed_image image op
+
+-- Out of the log, it is settled at an attached site.
+pub record SettlesAt (op : Op) (image after : Image) : Type 0 where
+  pub out : map.get (global image).log op.number ≡ None
+  pub location : Text
+  pub here : IsAttachedIn image location
+  pub last : Locals
+  pub settled : IsSettled op.number (locals_at image location) last
+  pub is : after ≡ with_locals image location last
+
+-- ---- local steps
+
+-- the site of a mapping, if there is one, and that of another one
+abbrev pub sites_with : Option Piece → Option Piece → List Text
+sites_with piece done = locations_of (option_to_list piece) ++ locations_of (option_to_list done)
+
+-- A local step was tried at most once; where all went well the operation is under way with these sites done.
+pub record Marks (op : Op) (sites : List Text) (ok : Type 0) (image : Image) (hs : List Happening) : Type 0 where
+  pub course : IsCourse (StepsAt op) image hs
+  pub few : length hs ≤ 1
+  pub done : ok → IsUnderWay (after_all image hs) op sites
+
+-- ---- the commit
+
+-- The commit was tried at most once; where all went well it is made.
+pub record Commits (op : Op) (ok : Type 0) (image : Image) (hs : List Happening) : Type 0 where
+  pub course : IsCourse (CommitsOp op) image hs
+  pub few : length hs ≤ 1
+  pub committed : ok → after_all image hs ≡ committed_image image op
+
+-- ---- settling
+
+-- Settling was tried at most once at a site; where all went well no row there has its mark, if the site is attached.
+pub record Settles (op : Op) (location : Text) (ok : Type 0) (image : Image) (hs : List Happening) : Type 0 where
+  pub course : IsCourse (SettlesAt op) image hs
+  pub few : length hs ≤ 1
+  pub clean : ok → IsAttachedIn image location → HasNoMark op (locals_at (after_all image hs) location)
+
+-- at a site, if there is one
+pub record SettlesIf (op : Op) (location : Option Text) (ok : Type 0) (image : Image) (hs : List Happening) : Type 0 where
+  pub course : IsCourse (SettlesAt op) image hs
+  pub few : length hs ≤ 1
+  pub clean : ok → (l : Text) → location ≡ Some l → IsAttachedIn image l → HasNoMark op (locals_at (after_all image hs) l)
+
+-- The sites were settled one after the other, each that is attached.
+pub record SettlesBoth (op : Op) (ok : Type 0) (image : Image) (hs : List Happening) : Type 0 where
+  pub course : IsCourse (SettlesAt op) image hs
+  pub few : length hs ≤ 2
+  pub clean : ok → (location : Text) → IsOneOf (sites_of op) location → IsAttachedIn image location → HasNoMark op (locals_at (after_all image hs) location)
+
+-- ---- stages
+
+-- Out of the log, with no mark at sites that aren't its own; it has at most two sites, and the world knows them.
+pub record IsCommitted (op : Op) (image : Image) : Type 0 where
+  pub out : IsOutOfLog (mark_tables image) op
+  pub elsewhere : NoMarksElsewhere image op
+  pub sites : AreAtMostTwo (sites_of op)
+  pub known : (location : Text) → IsOneOf (sites_of op) location → IsTrue (is_among image.locations location)
+
+-- What is carried of an operation at a stage: at which sites its local step is made, up to its commit.
+abbrev pub AtStage : Op → StageName → Image → Type 0
+AtStage op Logged image = IsUnderWay image op []
+AtStage op SourceDone image = IsUnderWay image op (locations_of (option_to_list op.olds.one))
+AtStage op TargetDone image = IsUnderWay image op (sites_with op.news.one op.olds.one)
+AtStage op Committed image = IsCommitted op image
+AtStage op Settled image = IsCommitted op image × Marked image op Settled
+
+abbrev pub next_stage : StageName → StageName
+next_stage Logged = SourceDone
+next_stage SourceDone = TargetDone
+next_stage TargetDone = Committed
+next_stage Committed = Settled
+next_stage Settled = Settled
+
+-- how many transactions are tried at most: one, but when it settles one at each of its sites, and then none
+abbrev pub most_tries : StageName → ℕ
+most_tries Logged = 1
+most_tries SourceDone = 1
+most_tries TargetDone = 1
+most_tries Committed = 2
+most_tries Settled = 0
+
+-- a transaction of an operation that goes on
+pub data AdvanceStep (op : Op) (image after : Image) : Type 0 where
+  Stepping : StepsAt op image after → AdvanceStep op image after
+  Committing : CommitsOp op image after → AdvanceStep op image after
+  Settling : SettlesAt op image after → AdvanceStep op image after
+
+-- An operation went on from a stage.
+pub record HasAdvanced (op : Op) (name : StageName) (ok : Type 0) (image : Image) (hs : List Happening) : Type 0 where
+  -- transactions of it were tried, and no more than so many
+  pub course : IsCourse (AdvanceStep op) image hs
+  pub few : length hs ≤ most_tries name
+  -- where all went well it has come to the next stage
+  pub reached : ok → AtStage op (next_stage name) (after_all image hs)
+  -- and from TargetDone on its commit is made, and nothing else
+  pub committed : name ≡ TargetDone → ok → after_all image hs ≡ committed_image image op
+
+abbrev pub Advances : Op → StageName → Type 0 → Image → List Happening → Type 0
+Advances op name ok image hs = Sound image → AtStage op name image → HasAdvanced op name ok image hs

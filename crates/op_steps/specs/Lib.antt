@@ -1,0 +1,6 @@
+pub mod Advancing
+pub mod Beginning
+pub mod Clearing
+pub mod Live
+pub mod Passing
+pub mod Undoing

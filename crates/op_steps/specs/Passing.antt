@@ -1,0 +1,57 @@
+-- What a call makes of the stores, from its beginning to its end: the transactions that it tried, in order, and the image before and after each of them.
+use Rattle.std.specs.Prelude.{◌≡◌, Bool, true, false, List, [], ◌∷◌, Result, Ok, Err}
+use Rattle.cell_world.specs.Images.{Image, Place, Happening, Committed, Wrote, Reopened, with_store, after_one}
+use Rattle.cell_world.specs.Stores.{changed}
+use Rattle.cell_world.specs.Outside.{Outside, Told, IfContents, IsLater, told_after}
+use Rattle.cell_world.specs.declared.changes.Edit.{Edit}
+use Rattle.global_tables.specs.declared.faults.StepFault.{StepFault}
+use Rattle.global_tables.specs.declared.faults.StepFault.TheVariants as fault
+
+-- ---- what happened
+
+-- more things happened, one after another
+abbrev pub told_after_all : Told → List Happening → Told
+told_after_all told [] = told
+told_after_all told (h ∷ hs) = told_after_all (told_after told h) hs
+
+-- What happened from one outside to a later one, and what is so of it from the contents on, where they are told.
+pub record Passes (P : Image → List Happening → Type 0) (old new : Outside) : Type 0 where
+  -- what happened, in order
+  pub happened : List Happening
+  -- it is told, and nothing else
+  pub told : new.told ≡ told_after_all old.told happened
+  -- and this is so of it, from the contents before it on
+  pub each : IfContents old.told (λ image. P image happened)
+  -- locations stay, and no count falls
+  pub later : IsLater old new
+
+-- ---- courses
+
+-- a transaction was tried, and where it took it was such a step
+abbrev pub Tries : (Image → Image → Type 0) → Image → Happening → Type 0
+Tries Step image (Committed place change true) = Step image (after_one image (Committed place change true))
+Tries Step image (Committed place change false) = Unit {0}
+Tries Step image (Wrote bytes) = ⊥
+Tries Step image (Reopened place cells) = ⊥
+
+-- Transactions were tried one after another from the image on, and each that took was such a step. Nothing else happened.
+abbrev pub IsCourse : (Image → Image → Type 0) → Image → List Happening → Type 0
+IsCourse Step image [] = Unit {0}
+IsCourse Step image (h ∷ hs) = Tries Step image h × IsCourse Step (after_one image h) hs
+
+-- this is so of each image between, of the first one and of the last one
+abbrev pub AtEach : (Image → Type 0) → Image → List Happening → Type 0
+AtEach P image [] = P image
+AtEach P image (h ∷ hs) = P image × AtEach P (after_one image h) hs
+
+-- ---- one transaction
+
+-- what is tried of a change, by the answer: want of memory tries nothing
+abbrev pub IsTryOf : Place → List Edit → Result (Unit {0}) StepFault → List Happening → Type 0
+IsTryOf place change (Ok done) hs = hs ≡ Committed place change true ∷ []
+IsTryOf place change (Err fault.Store) hs = (took : Bool) × (hs ≡ Committed place change took ∷ [])
+IsTryOf place change (Err fault.Memory) hs = hs ≡ []
+
+-- The change was tried at the place.
+abbrev pub TriesAt : Place → List Edit → Result (Unit {0}) StepFault → Outside → Outside → Type 0
+TriesAt place change result old new = Passes (λ image hs. IsTryOf place change result hs) old new
