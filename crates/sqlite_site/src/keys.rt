@@ -1,8 +1,8 @@
 //! Keys of cells, their kinds and their maps.
-ghost use Rattle.std.specs.Prelude.{◌≡◌, ◌++◌, IfOk, IsTrue};
+ghost use Rattle.std.specs.Prelude.{◌≡◌, ◌↔◌, IfOk, IsTrue};
 ghost use Rattle.cell_world.specs.Orders.{kind_number, map_of};
 ghost use Rattle.cell_world.specs.Stores.{own_key};
-ghost use Rattle.sqlite_site.specs.Entries.{IsWithin, rows_from};
+ghost use Rattle.sqlite_site.specs.Entries.{IsWithin, rows_from, first_key};
 
 use crate::refused::Refused;
 use cell_world::cells::{Cell, CellKey};
@@ -61,6 +61,13 @@ fn map_within(key: &CellKey) -> Option<Name>
     }
 }
 
+/// Whether the cell stands under the key.
+pub(crate) fn is_under(key: &CellKey, cell: &Cell) -> bool
+    ensures { IsTrue result ↔ own_key cell.now ≡ key.now }
+{
+    key_of(cell) == *key
+}
+
 /// The cell, if it is of the map of the key.
 pub(crate) fn within(key: &CellKey, found: Option<Cell>) -> Option<Cell>
     ensures { IsWithin key.now found result }
@@ -82,16 +89,18 @@ pub(crate) fn rows_from(
     ensures { IfOk result (λ bytes. bytes.items ≡ rows_from map.now from.now past) }
 {
     let mut bytes = order_bytes(alloc, &CellKey::Piece(*map, *from))?;
-    if past && bytes.push(255).is_err() {
-        return Err(Refused::Memory);
+    if past {
+        bytes.push(255)?;
     }
     Ok(bytes)
 }
 
-/// The key of a cell, if it is a row of the map.
-pub(crate) fn row_key(map: &Name, cell: Option<&Cell>) -> Option<NormKey> {
-    match cell {
-        Some(Cell::Row(row, _)) if row.map == *map => Some(row.key),
+/// The key of the first of the cells, if it is a row of the map.
+pub(crate) fn first_key(map: &Name, cells: &[Cell]) -> Option<NormKey>
+    ensures { result ≡ first_key map.now cells.now }
+{
+    match cells.first() {
+        Some(Cell::Row(row, _)) if map.cmp(&row.map).is_eq() => Some(row.key),
         _ => None,
     }
 }

@@ -7,6 +7,7 @@ use cell_world::memory::Memory;
 use cell_world::outside::WorldError;
 use record_form::faults::CellFault;
 use sqlite::{Error, ErrorCode};
+use std::alloc::AllocFailed;
 
 /// Why a call of a store gave nothing.
 #[derive(Clone, Copy, Debug, PartialEq, Eq)]
@@ -49,6 +50,16 @@ impl From<Memory> for Refused {
     ghost from_gives = { λ _ r. r ≡ refused.Memory };
 
     fn from(_: Memory) -> Refused {
+        Refused::Memory
+    }
+}
+
+impl<T: Drop> From<AllocFailed<T>> for Refused {
+    ghost use Rattle.sqlite_site.specs.declared.refused.Refused.TheVariants as refused;
+
+    ghost from_gives = { λ _ r. r ≡ refused.Memory };
+
+    fn from(_: AllocFailed<T>) -> Refused {
         Refused::Memory
     }
 }

@@ -1,11 +1,11 @@
 //! The cells of rows.
-ghost use Rattle.std.specs.Prelude.{◌≡◌, ℕ, List, ◌∷◌, [], IfOk, OnOk};
+ghost use Rattle.std.specs.Prelude.{◌≡◌, IfOk, OnOk};
 ghost use Rattle.cell_world.specs.Orders.{kind_number};
 ghost use Rattle.cell_world.specs.Stores.{own_key};
 ghost use Rattle.record_form.specs.OrderBytes.{ordered};
 ghost use Rattle.sqlite_value.specs.declared.value.Value.TheVariants.{Blob};
 ghost use Rattle.sqlite_value.specs.Order.{column};
-ghost use Rattle.sqlite_site.specs.Entries.{Spells};
+ghost use Rattle.sqlite_site.specs.Entries.{IsCellOf, AreCellsOf};
 
 use crate::keys::{key_of, kind_of};
 use crate::refused::Refused;
@@ -40,7 +40,7 @@ fn check_key(alloc: Global, kind: u32, key: &[u8], cell: &Cell) -> Result<(), Re
 
 /// The cell of a row of this kind, of which the key and the value are given.
 pub(crate) fn cell_of(alloc: Global, kind: u32, row: &Row) -> Result<Cell, Refused>
-    ensures { IfOk result (λ c. (k w : List ℕ) → row.now ≡ Blob k ∷ Blob w ∷ [] → Spells kind k w c) }
+    ensures { IfOk result (λ c. IsCellOf kind row.now c) }
 {
     let value = bytes_at(row, 1)?;
     let cell = read_cell(alloc, value)?;
@@ -50,12 +50,12 @@ pub(crate) fn cell_of(alloc: Global, kind: u32, row: &Row) -> Result<Cell, Refus
 }
 
 /// The cells of the rows, in order.
-pub(crate) fn cells_of(alloc: Global, kind: u32, rows: &[Row]) -> Result<Vec<Cell>, Refused> {
+pub(crate) fn cells_of(alloc: Global, kind: u32, rows: &[Row]) -> Result<Vec<Cell>, Refused>
+    ensures { IfOk result (λ cells. AreCellsOf kind rows.now cells.items) }
+{
     let mut cells: Vec<Cell> = Vec::new(alloc);
     for row in rows {
-        if cells.push(cell_of(alloc, kind, row)?).is_err() {
-            return Err(Refused::Memory);
-        }
+        cells.push(cell_of(alloc, kind, row)?)?;
     }
     Ok(cells)
 }

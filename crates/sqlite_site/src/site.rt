@@ -1,6 +1,10 @@
 //! One store of cells.
-ghost use Rattle.std.specs.Prelude.{◌≡◌, ◌≤◌, IfOk};
+ghost use Rattle.std.specs.Prelude.{◌≡◌, ◌≤◌, IfOk, OnOk, OnErr};
 ghost use Rattle.cell_world.specs.Counts.{last_count};
+ghost use Rattle.cell_world.specs.Orders.{kind_number};
+ghost use Rattle.record_form.specs.OrderBytes.{ordered};
+ghost use Rattle.sqlite_site.specs.Entries.{IsReadOf, IsFloorOf, ArePageOf, IsNextOf};
+ghost use Rattle.sqlite_site.specs.Held.{OfRows, Leaves, Makes};
 ghost use Rattle.sqlite_site.specs.Refusals.{counts_after};
 
 use crate::keeping::Keeping;
@@ -42,6 +46,8 @@ impl<S: Keeping> Site<S> {
 
     /// The cell of a key.
     pub fn read(&mut self, alloc: Global, key: &CellKey) -> Result<Option<Cell>, WorldError>
+        ensures found { IfOk result (λ found. OfRows S.Store self.old.conn self.new.conn (λ all. IsReadOf all key.now found)) }
+        ensures same { Leaves S.Store self.old.conn self.new.conn }
         ensures count { self.new.faults ≡ counts_after result self.old.faults }
     {
         let done = match &mut self.conn {
@@ -53,6 +59,8 @@ impl<S: Keeping> Site<S> {
 
     /// The greatest cell of the same kind and map that is at or below the key.
     pub fn floor(&mut self, alloc: Global, key: &CellKey) -> Result<Option<Cell>, WorldError>
+        ensures found { IfOk result (λ found. OfRows S.Store self.old.conn self.new.conn (λ all. IsFloorOf all key.now found)) }
+        ensures same { Leaves S.Store self.old.conn self.new.conn }
         ensures count { self.new.faults ≡ counts_after result self.old.faults }
     {
         let done = match &mut self.conn {
@@ -69,6 +77,8 @@ impl<S: Keeping> Site<S> {
         from: &CellKey,
         limit: u32,
     ) -> Result<Vec<Cell>, WorldError>
+        ensures found { IfOk result (λ found. OfRows S.Store self.old.conn self.new.conn (λ all. ArePageOf all (kind_number from.now) (ordered from.now) limit found.items)) }
+        ensures same { Leaves S.Store self.old.conn self.new.conn }
         ensures count { self.new.faults ≡ counts_after result self.old.faults }
     {
         let done = match &mut self.conn {
@@ -86,6 +96,8 @@ impl<S: Keeping> Site<S> {
         from: &NormKey,
         past: bool,
     ) -> Result<Option<NormKey>, WorldError>
+        ensures found { IfOk result (λ found. OfRows S.Store self.old.conn self.new.conn (λ all. IsNextOf all map.now from.now past found)) }
+        ensures same { Leaves S.Store self.old.conn self.new.conn }
         ensures count { self.new.faults ≡ counts_after result self.old.faults }
     {
         let done = match &mut self.conn {
@@ -97,6 +109,8 @@ impl<S: Keeping> Site<S> {
 
     /// Makes a change in one transaction.
     pub fn commit(&mut self, alloc: Global, change: &Change) -> Result<(), WorldError>
+        ensures made { OnOk result (Makes S.Store self.old.conn self.new.conn change.now) }
+        ensures unmade { OnErr result (Leaves S.Store self.old.conn self.new.conn) }
         ensures count { self.new.faults ≡ counts_after result self.old.faults }
     {
         let done = match &mut self.conn {

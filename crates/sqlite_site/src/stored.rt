@@ -1,6 +1,17 @@
 //! Cells that are found and changed by the four statements.
+ghost use Rattle.std.specs.Prelude.{◌≡◌, false, List, IfOk, OnOk, OnErr, IsTrue};
+ghost use Rattle.cell_world.specs.Spelled.{IsCell};
+ghost use Rattle.cell_world.specs.Orders.{kind_number};
+ghost use Rattle.cell_world.specs.Stores.{own_key};
+ghost use Rattle.record_form.specs.Layout.{spelling};
+ghost use Rattle.record_form.specs.OrderBytes.{ordered};
+ghost use Rattle.sqlite.specs.Held.{state};
+ghost use Rattle.sqlite.specs.State.{HasCleanDisk};
+ghost use Rattle.cell_table.specs.Cells.{Entry, Holds};
+ghost use Rattle.sqlite_site.specs.Entries.{IsReadOf, IsLastOf, IsFloorOf, ArePageOf, IsNextOf, AreEdited};
+ghost use Rattle.sqlite_site.specs.Held.{Rests, IsOpOf, AreOpsOf};
 
-use crate::keys::{key_of, kind_of, row_key, rows_from, within};
+use crate::keys::{first_key, is_under, key_of, kind_of, rows_from, within};
 use crate::refused::Refused;
 use crate::rows::{cell_of, cells_of};
 use cell_table::Op;
@@ -15,9 +26,11 @@ use sqlite::{Alter, Connection};
 use std::alloc::Global;
 
 /// The cell that these bytes spell, which must be the one of the key.
-fn cell_under(alloc: Global, key: &CellKey, value: &[u8]) -> Result<Cell, Refused> {
+fn cell_under(alloc: Global, key: &CellKey, value: &[u8]) -> Result<Cell, Refused>
+    ensures { IfOk result (λ c. (own_key c ≡ key.now) × IsCell c × (value.now ≡ spelling c)) }
+{
     let cell = read_cell(alloc, value)?;
-    if key_of(&cell) != *key {
+    if !is_under(key, &cell) {
         return Err(Refused::Store);
     }
     Ok(cell)
@@ -28,7 +41,11 @@ pub(crate) fn read<S: Alter>(
     conn: &mut Connection<S>,
     alloc: Global,
     key: &CellKey,
-) -> Result<Option<Cell>, Refused> {
+) -> Result<Option<Cell>, Refused>
+    ensures found { HasCleanDisk (state S.Store conn.new) → IfOk result (λ found. (all : List Entry) → Holds (state S.Store conn.old).now all → IsReadOf all key.now found) }
+    ensures same { Rests (state S.Store conn.old) (state S.Store conn.new) }
+    ensures mode { (state S.Store conn.old).in_transaction ≡ false → (state S.Store conn.new).in_transaction ≡ false }
+{
     let bytes = order_bytes(alloc, key)?;
     match cell_table::read(conn, kind_of(key), bytes.as_slice())? {
         Some(value) => Ok(Some(cell_under(alloc, key, value.as_slice())?)),
@@ -41,7 +58,11 @@ fn last<S: Alter>(
     conn: &mut Connection<S>,
     alloc: Global,
     key: &CellKey,
-) -> Result<Option<Cell>, Refused> {
+) -> Result<Option<Cell>, Refused>
+    ensures found { HasCleanDisk (state S.Store conn.new) → IfOk result (λ found. (all : List Entry) → Holds (state S.Store conn.old).now all → IsLastOf all key.now found) }
+    ensures same { Rests (state S.Store conn.old) (state S.Store conn.new) }
+    ensures mode { (state S.Store conn.old).in_transaction ≡ false → (state S.Store conn.new).in_transaction ≡ false }
+{
     let kind = kind_of(key);
     let bytes = order_bytes(alloc, key)?;
     let rows = cell_table::floor(conn, kind, bytes.as_slice())?;
@@ -56,7 +77,11 @@ pub(crate) fn floor<S: Alter>(
     conn: &mut Connection<S>,
     alloc: Global,
     key: &CellKey,
-) -> Result<Option<Cell>, Refused> {
+) -> Result<Option<Cell>, Refused>
+    ensures found { HasCleanDisk (state S.Store conn.new) → IfOk result (λ found. (all : List Entry) → Holds (state S.Store conn.old).now all → IsFloorOf all key.now found) }
+    ensures same { Rests (state S.Store conn.old) (state S.Store conn.new) }
+    ensures mode { (state S.Store conn.old).in_transaction ≡ false → (state S.Store conn.new).in_transaction ≡ false }
+{
     let found = last(conn, alloc, key)?;
     Ok(within(key, found))
 }
@@ -68,7 +93,11 @@ fn page<S: Alter>(
     kind: u32,
     from: &[u8],
     limit: u32,
-) -> Result<Vec<Cell>, Refused> {
+) -> Result<Vec<Cell>, Refused>
+    ensures found { HasCleanDisk (state S.Store conn.new) → IfOk result (λ found. (all : List Entry) → Holds (state S.Store conn.old).now all → ArePageOf all kind from.now limit found.items) }
+    ensures same { Rests (state S.Store conn.old) (state S.Store conn.new) }
+    ensures mode { (state S.Store conn.old).in_transaction ≡ false → (state S.Store conn.new).in_transaction ≡ false }
+{
     let rows = cell_table::scan(conn, kind, from, limit)?;
     cells_of(alloc, kind, rows.as_slice())
 }
@@ -79,7 +108,11 @@ pub(crate) fn scan<S: Alter>(
     alloc: Global,
     from: &CellKey,
     limit: u32,
-) -> Result<Vec<Cell>, Refused> {
+) -> Result<Vec<Cell>, Refused>
+    ensures found { HasCleanDisk (state S.Store conn.new) → IfOk result (λ found. (all : List Entry) → Holds (state S.Store conn.old).now all → ArePageOf all (kind_number from.now) (ordered from.now) limit found.items) }
+    ensures same { Rests (state S.Store conn.old) (state S.Store conn.new) }
+    ensures mode { (state S.Store conn.old).in_transaction ≡ false → (state S.Store conn.new).in_transaction ≡ false }
+{
     let bytes = order_bytes(alloc, from)?;
     page(conn, alloc, kind_of(from), bytes.as_slice(), limit)
 }
@@ -91,14 +124,20 @@ pub(crate) fn next_key<S: Alter>(
     map: &Name,
     from: &NormKey,
     past: bool,
-) -> Result<Option<NormKey>, Refused> {
+) -> Result<Option<NormKey>, Refused>
+    ensures found { HasCleanDisk (state S.Store conn.new) → IfOk result (λ found. (all : List Entry) → Holds (state S.Store conn.old).now all → IsNextOf all map.now from.now past found) }
+    ensures same { Rests (state S.Store conn.old) (state S.Store conn.new) }
+    ensures mode { (state S.Store conn.old).in_transaction ≡ false → (state S.Store conn.new).in_transaction ≡ false }
+{
     let bytes = rows_from(alloc, map, from, past)?;
     let found = page(conn, alloc, 10, bytes.as_slice(), 1)?;
-    Ok(row_key(map, found.as_slice().first()))
+    Ok(first_key(map, found.as_slice()))
 }
 
 /// What an edit does to a row.
-fn op_of(alloc: Global, edit: &Edit) -> Result<Op, Refused> {
+fn op_of(alloc: Global, edit: &Edit) -> Result<Op, Refused>
+    ensures { IfOk result (λ op. IsOpOf op edit.now) }
+{
     match edit {
         Edit::Put(cell) => {
             let own = key_of(cell);
@@ -119,12 +158,12 @@ fn op_of(alloc: Global, edit: &Edit) -> Result<Op, Refused> {
 }
 
 /// What the edits of a change do to rows, in order.
-fn ops_of(alloc: Global, edits: &[Edit]) -> Result<Vec<Op>, Refused> {
+fn ops_of(alloc: Global, edits: &[Edit]) -> Result<Vec<Op>, Refused>
+    ensures { IfOk result (λ ops. AreOpsOf ops.items edits.now) }
+{
     let mut ops: Vec<Op> = Vec::new(alloc);
     for edit in edits {
-        if ops.push(op_of(alloc, edit)?).is_err() {
-            return Err(Refused::Memory);
-        }
+        ops.push(op_of(alloc, edit)?)?;
     }
     Ok(ops)
 }
@@ -134,7 +173,11 @@ pub(crate) fn commit<S: Alter>(
     conn: &mut Connection<S>,
     alloc: Global,
     change: &Change,
-) -> Result<(), Refused> {
+) -> Result<(), Refused>
+    ensures made { HasCleanDisk (state S.Store conn.new) → OnOk result ((all : List Entry) → Holds (state S.Store conn.old).now all → (next : List Entry) × AreEdited change.now all next × Holds (state S.Store conn.new).now next) }
+    ensures unmade { HasCleanDisk (state S.Store conn.new) → IsTrue (state S.Store conn.new).is_open → OnErr result ((state S.Store conn.new).now ≡ (state S.Store conn.old).now) }
+    ensures mode { (state S.Store conn.old).in_transaction ≡ false → (state S.Store conn.new).in_transaction ≡ false }
+{
     if !conn.is_autocommit() {
         return Err(Refused::Store);
     }
