@@ -19,8 +19,8 @@ distinct_fact = IsDistinct-prop same
 -- each count of a site is kept in 64 bits
 pub count_within : {A : Type 0} (faults : A → ℕ) → ((a : A) → faults a ≤ last_count) → (sites : List A) (n : ℕ) → count_of faults sites n ≤ last_count
 count_within faults within [] n = zero-le
-count_within faults within (a ∷ as) zero = within a
-count_within faults within (a ∷ as) (suc n) = count_within faults within as n
+count_within faults within (a ∷ rest) zero = within a
+count_within faults within (a ∷ rest) (suc n) = count_within faults within rest n
 
 pub is_world : (locations : List Text) (faults : ℕ → ℕ) (sink reads : ℕ) → AllByRecursion (λ location. IsTrue (is_location location)) locations → IsDistinct same locations → length locations ≤ MOST_LOCATIONS
     → ((n : ℕ) → faults n ≤ last_count) → sink ≤ last_count → reads ≤ last_count → IsWorld (tells locations faults sink reads)

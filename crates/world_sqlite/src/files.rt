@@ -1,10 +1,11 @@
 //! A world over `sqlite` in the files of a folder.
-ghost use Rattle.std.specs.Prelude.{◌≡◌, ◌≤◌, ◌+◌, length, IfOk, All};
+ghost use Rattle.std.specs.Prelude.{◌≡◌, ◌≤◌, ◌+◌, length, IfOk};
 ghost use Rattle.std.specs.List.{IsDistinct};
 ghost use Rattle.cell_world.specs.Keys.{same};
+ghost use Rattle.world_sqlite.specs.Counted.{AreFresh};
 ghost use Rattle.cell_world.specs.declared.limits.TheConstants.{MOST_LOCATIONS};
 
-use crate::world::SqliteWorld;
+use crate::world::{SqliteWorld, add_site};
 use cell_world::locations::Location;
 use cell_world::memory::Memory;
 use cell_world::outside::WorldError;
@@ -47,18 +48,14 @@ fn sites_in(
     folder: &str,
     locations: &[Location],
 ) -> Result<Vec<Site<FileStore<File>>>, WorldError>
-    ensures { IfOk result (λ sites. (length sites.items ≡ length locations.now + 1) × All (λ s. s.faults ≡ 0) sites.items) }
+    ensures { IfOk result (λ sites. (length sites.items ≡ length locations.now + 1) × AreFresh sites.items (λ s. s.faults)) }
 {
     let alloc = rt.alloc();
     let mut sites: Vec<Site<FileStore<File>>> = Vec::new(alloc);
-    if sites.push(site_at(rt, global_path(alloc, folder)?)?).is_err() {
-        return Err(WorldError::Memory);
-    }
-    for location in locations {
+    add_site(&mut sites, site_at(rt, global_path(alloc, folder)?)?)?;
+    'each: for location in locations {
         let path = location_path(alloc, folder, location)?;
-        if sites.push(site_at(rt, path)?).is_err() {
-            return Err(WorldError::Memory);
-        }
+        add_site(&mut sites, site_at(rt, path)?)?;
     }
     Ok(sites)
 }
@@ -80,7 +77,7 @@ impl<O: Drop> SqliteWorld<FileStore<File>, O> {
     ) -> Result<SqliteWorld<FileStore<File>, O>, WorldError>
         requires distinct { IsDistinct same locations.now }
         requires few { length locations.now ≤ MOST_LOCATIONS }
-        ensures { IfOk result (λ w. (w.locations.items ≡ locations.now) × IsNewWorld (tells w.locations.items (count_of (λ s. s.faults) w.sites.items) w.sink_faults w.global_reads)) }
+        ensures { IfOk result (λ w. (w.locations.items ≡ locations.now) × (w.out ≡ out) × IsNewWorld (tells w.locations.items (count_of (λ s. s.faults) w.sites.items) w.sink_faults w.global_reads)) }
     {
         let sites = sites_in(rt, folder, locations)?;
         match Vec::from_slice(rt.alloc(), locations) {

@@ -1,10 +1,11 @@
 //! A world over `sqlite` in memory.
-ghost use Rattle.std.specs.Prelude.{◌≡◌, ◌≤◌, ◌+◌, length, IfOk, All};
+ghost use Rattle.std.specs.Prelude.{◌≡◌, ◌≤◌, ◌+◌, length, IfOk};
 ghost use Rattle.std.specs.List.{IsDistinct};
 ghost use Rattle.cell_world.specs.Keys.{same};
+ghost use Rattle.world_sqlite.specs.Counted.{AreFresh};
 ghost use Rattle.cell_world.specs.declared.limits.TheConstants.{MOST_LOCATIONS};
 
-use crate::world::SqliteWorld;
+use crate::world::{SqliteWorld, add_site};
 use cell_world::locations::Location;
 use cell_world::outside::WorldError;
 use sqlite::MemStore;
@@ -13,13 +14,11 @@ use std::alloc::Global;
 
 /// So many empty stores in memory.
 fn empty_sites(alloc: Global, count: usize) -> Result<Vec<Site<MemStore>>, WorldError>
-    ensures { IfOk result (λ sites. (length sites.items ≡ count) × All (λ s. s.faults ≡ 0) sites.items) }
+    ensures { IfOk result (λ sites. (length sites.items ≡ count) × AreFresh sites.items (λ s. s.faults)) }
 {
     let mut sites: Vec<Site<MemStore>> = Vec::new(alloc);
-    for _ in 0..count {
-        if sites.push(Site::open(alloc, ())?).is_err() {
-            return Err(WorldError::Memory);
-        }
+    'each: for number in 0..count {
+        add_site(&mut sites, Site::open(alloc, ())?)?;
     }
     Ok(sites)
 }
@@ -36,7 +35,7 @@ impl<O: Drop> SqliteWorld<MemStore, O> {
     ) -> Result<SqliteWorld<MemStore, O>, WorldError>
         requires distinct { IsDistinct same locations.now }
         requires few { length locations.now ≤ MOST_LOCATIONS }
-        ensures { IfOk result (λ w. (w.locations.items ≡ locations.now) × IsNewWorld (tells w.locations.items (count_of (λ s. s.faults) w.sites.items) w.sink_faults w.global_reads)) }
+        ensures { IfOk result (λ w. (w.locations.items ≡ locations.now) × (w.out ≡ out) × IsNewWorld (tells w.locations.items (count_of (λ s. s.faults) w.sites.items) w.sink_faults w.global_reads)) }
     {
         let sites = empty_sites(alloc, locations.len() + 1)?;
         match Vec::from_slice(alloc, locations) {

@@ -1,15 +1,17 @@
 //! Stores in `sqlite`, and a writer of std as the output.
-ghost use Rattle.std.specs.Prelude.{◌≡◌, ◌≤◌, ◌<◌, ◌+◌, ◌==◌, length, IsTrue, IfSome, if◌then◌else◌};
+ghost use Rattle.std.specs.Prelude.{◌≡◌, ◌≤◌, ◌<◌, ◌+◌, ◌==◌, length, IsTrue, IfSome, OnOk, if◌then◌else◌};
 ghost use Rattle.std.specs.List.{IsDistinct, AllByRecursion, position};
 ghost use Rattle.cell_world.specs.Counts.{one_more, last_count};
 ghost use Rattle.cell_world.specs.Keys.{same};
 ghost use Rattle.cell_world.specs.Texts.{is_location};
 ghost use Rattle.cell_world.specs.declared.limits.TheConstants.{MOST_LOCATIONS};
+ghost use Rattle.world_sqlite.specs.Counted.{AreFresh};
 ghost use Rattle.world_sqlite.specs.Facts.{spelled_fact, distinct_fact};
 
 use cell_world::cells::{Cell, CellKey, Site as SiteNumber};
 use cell_world::changes::Change;
 use cell_world::locations::Location;
+use cell_world::memory::Memory;
 use cell_world::names::Name;
 use cell_world::norm_keys::NormKey;
 use cell_world::outside::{World, WorldError};
@@ -69,9 +71,17 @@ fn put<O: Write>(out: &mut O, bytes: &[u8]) -> bool {
     out.write_all(bytes).is_ok() && out.flush().is_ok()
 }
 
+/// Adds a site at the end. `Memory` leaves them as they were.
+pub(crate) fn add_site<S: Keeping>(sites: &mut Vec<Site<S>>, site: Site<S>) -> Result<(), Memory>
+    ensures count { OnOk result (length sites.new.items ≡ length sites.old.items + 1) }
+    ensures fresh { OnOk result (AreFresh sites.old.items (λ s. s.faults) → site.faults ≡ 0 → AreFresh sites.new.items (λ s. s.faults)) }
+{
+    sites.push(site)?;
+    Ok(())
+}
+
 impl<S: Keeping, O: Drop> SqliteWorld<S, O> {
     ghost use Rattle.cell_world.specs.Outside.{IsNewWorld};
-    ghost use Rattle.std.specs.Prelude.{IfOk, All};
     ghost use Rattle.world_sqlite.specs.Counted.{count_of, tells};
 
     /// A world of these sites, the global one first.
@@ -79,8 +89,9 @@ impl<S: Keeping, O: Drop> SqliteWorld<S, O> {
         requires distinct { IsDistinct same locations.items }
         requires few { length locations.items ≤ MOST_LOCATIONS }
         requires each { length sites.items ≡ length locations.items + 1 }
-        requires fresh { All (λ s. s.faults ≡ 0) sites.items }
-        ensures { IsNewWorld (tells result.locations.items (count_of (λ s. s.faults) result.sites.items) result.sink_faults result.global_reads) }
+        requires fresh { AreFresh sites.items (λ s. s.faults) }
+        ensures new { IsNewWorld (tells result.locations.items (count_of (λ s. s.faults) result.sites.items) result.sink_faults result.global_reads) }
+        ensures made { (result.locations.items ≡ locations.items) × (result.out ≡ out) }
     {
         known_locations(locations.as_slice());
         SqliteWorld {
