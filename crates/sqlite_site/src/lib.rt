@@ -1,8 +1,8 @@
 //! One store of cells in `sqlite`: cells are read and changed by the rows of its table.
 #![tactic(auto)]
 
-mod keys;
 mod keeping;
+mod keys;
 mod refused;
 mod rows;
 mod site;
