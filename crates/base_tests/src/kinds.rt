@@ -1,5 +1,5 @@
 //! Each kind of cell and each happening, with enough memory: a copy that answers want of memory for one of them is seen.
-ghost use Rattle.std.specs.Prelude.{IsTrue, IfOk};
+ghost use Rattle.std.specs.Prelude.{◌≡◌, IsTrue, IfOk};
 ghost use Rattle.cell_world.specs.Spelled.{is_spelled};
 
 use crate::memory::empty_world;
@@ -67,7 +67,9 @@ fn key_of_kind(parts: &Parts, kind: u8) -> CellKey {
 }
 
 /// A mapping with a lock.
-fn piece(parts: &Parts) -> Piece {
+fn piece(parts: &Parts) -> Piece
+    ensures { result.map ≡ parts.now.map }
+{
     Piece {
         map: parts.map,
         span: Span::Range(parts.key, High::Max),
@@ -97,8 +99,8 @@ fn log_cell(parts: &Parts) -> Cell
     })
 }
 
-/// A log cell with two mappings before and one after.
-fn log_cell_of_mappings(parts: &Parts) -> Cell
+/// A log cell with a mapping before.
+fn log_cell_of_a_mapping(parts: &Parts) -> Cell
     ensures { IsTrue (is_spelled result) }
 {
     Cell::Log(Op {
@@ -107,10 +109,10 @@ fn log_cell_of_mappings(parts: &Parts) -> Cell
         hull: Span::Range(parts.key, High::Max),
         olds: Pieces {
             one: Some(piece(parts)),
-            two: Some(piece(parts)),
+            two: None,
         },
         news: Pieces {
-            one: Some(piece(parts)),
+            one: None,
             two: None,
         },
         extra: Extra::None,
@@ -241,9 +243,9 @@ fn rows_come_and_go_with_bytes_and_without(rt: HostRuntime) -> Result<(), Fail> 
 }
 
 #[test]
-fn a_log_cell_of_mappings_comes_and_goes(rt: HostRuntime) -> Result<(), Fail> {
+fn a_log_cell_of_a_mapping_comes_and_goes(rt: HostRuntime) -> Result<(), Fail> {
     let parts = make_parts()?;
-    let cell = log_cell_of_mappings(&parts);
+    let cell = log_cell_of_a_mapping(&parts);
     let key = key_of_kind(&parts, 5);
     assert!(rt; comes_and_goes(rt.alloc(), cell, &key)?);
     Ok(())
