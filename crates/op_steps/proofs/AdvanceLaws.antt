@@ -24,17 +24,16 @@ use Rattle.cell_world.proofs.ListLaws.{all_from}
 use Rattle.cell_world.proofs.OutsideLaws.{later_same}
 use Rattle.cell_world.proofs.StoreLaws.{get-remove_same}
 use Rattle.image_laws.proofs.NoMarks.{none_elsewhere}
-use Rattle.image_laws.proofs.Places.{old_site, new_site, site_attached}
+use Rattle.image_laws.proofs.Places.{site_attached}
 use Rattle.op_log.proofs.TwoSites.{two_sites}
 use Rattle.op_steps.specs.Passing.{Passes, IsCourse}
-use Rattle.op_steps.specs.Undoing.{IsAttachedAt}
 use Rattle.op_steps.specs.Advancing.{StepsAt, CommitsOp, SettlesAt, Marks, Commits, SettlesBoth, sites_with, IsCommitted, AtStage, AdvanceStep, Stepping, Committing, Settling, HasAdvanced, Advances}
 use Rattle.op_steps.proofs.CommitLaws.{CommitsOne}
 use Rattle.op_steps.proofs.Courses.{course_weaker}
 use Rattle.op_steps.proofs.MarkLaws.{MarksBeside}
 use Rattle.op_steps.proofs.Passes.{passes_none, passes_weaker}
 use Rattle.op_steps.proofs.SettleLaws.{SettlesAll, StaysClean, course_clean, attached_before}
-use Rattle.op_steps.proofs.UndoLaws.{one_listed}
+use Rattle.op_steps.proofs.UndoLaws.{own_one, new_one}
 
 -- ---- local steps
 
@@ -43,17 +42,10 @@ with_none : (piece : Option Piece) → sites_with piece None ≡ locations_of (o
 with_none None = refl
 with_none (Some p) = refl
 
--- the sites of the first old and of the first new mapping are attached
-olds_attached : (image : Image) (op : Op) → Sound image → HasLog (global image).log op → IsAttachedAt op.olds.one image
-olds_attached image op sound logged p e = site_attached image op (sound.logged.lawful op logged) p.location (old_site op p (one_listed op.olds.one op.olds.two p e))
-
-news_attached : (image : Image) (op : Op) → Sound image → HasLog (global image).log op → IsAttachedAt op.news.one image
-news_attached image op sound logged p e = site_attached image op (sound.logged.lawful op logged) p.location (new_site op p (one_listed op.news.one op.news.two p e))
-
 pub source_on : (op : Op) (ok : Type 0) (a b : Outside) → Passes (MarksBeside op op.olds.one None ok) a b → Passes (Advances op Logged ok) a b
 source_on op ok a b p = passes_weaker (MarksBeside op op.olds.one None ok) (Advances op Logged ok) a b
-    (λ image hs f sound w. let r = f sound w (olds_attached image op sound w.logged) in record {
-      course = course_weaker (StepsAt op) (AdvanceStep op) (λ i x s. Stepping s) image hs r.course;
+    (λ image hs f sound w. let r = f sound w (own_one image op sound w.logged) in record {
+      course = course_weaker (StepsAt op) (AdvanceStep op) (λ i p c s. Stepping s) image hs r.course;
       few = r.few;
       reached = λ k. subst (IsUnderWay (after_all image hs) op) (with_none op.olds.one) (r.done k);
       committed = λ e k. cc;
@@ -61,8 +53,8 @@ source_on op ok a b p = passes_weaker (MarksBeside op op.olds.one None ok) (Adva
 
 pub target_on : (op : Op) (ok : Type 0) (a b : Outside) → Passes (MarksBeside op op.news.one op.olds.one ok) a b → Passes (Advances op SourceDone ok) a b
 target_on op ok a b p = passes_weaker (MarksBeside op op.news.one op.olds.one ok) (Advances op SourceDone ok) a b
-    (λ image hs f sound w. let r = f sound w (news_attached image op sound w.logged) in record {
-      course = course_weaker (StepsAt op) (AdvanceStep op) (λ i x s. Stepping s) image hs r.course;
+    (λ image hs f sound w. let r = f sound w (new_one image op sound w.logged) in record {
+      course = course_weaker (StepsAt op) (AdvanceStep op) (λ i p c s. Stepping s) image hs r.course;
       few = r.few;
       reached = r.done;
       committed = λ e k. cc;
@@ -82,7 +74,7 @@ is_committed image op sound logged = record {
 pub commit_on : (op : Op) (ok : Type 0) (a b : Outside) → Passes (CommitsOne op ok) a b → Passes (Advances op TargetDone ok) a b
 commit_on op ok a b p = passes_weaker (CommitsOne op ok) (Advances op TargetDone ok) a b
     (λ image hs f sound w. let r = f sound w in record {
-      course = course_weaker (CommitsOp op) (AdvanceStep op) (λ i x s. Committing s) image hs r.course;
+      course = course_weaker (CommitsOp op) (AdvanceStep op) (λ i p c s. Committing s) image hs r.course;
       few = r.few;
       reached = λ k. subst (IsCommitted op) (sym (r.committed k)) (is_committed image op sound w.logged);
       committed = λ e k. r.committed k;
@@ -106,7 +98,7 @@ settle_on op ok a b p = passes_weaker (SettlesAll op ok) (Advances op Committed 
     let s = course_clean op image hs sound r.course in
     let now = stays_committed op image (after_all image hs) c s in
     record {
-      course = course_weaker (SettlesAt op) (AdvanceStep op) (λ i x t. Settling t) image hs r.course;
+      course = course_weaker (SettlesAt op) (AdvanceStep op) (λ i p c t. Settling t) image hs r.course;
       few = r.few;
       reached = λ k. (now, (now.out, all_from (λ l. IsAttachedIn (after_all image hs) l → HasNoMark op (locals_at (after_all image hs) l)) (sites_of op) (λ l h at. r.clean k l h (attached_before op image (after_all image hs) s l at))));
       committed = λ e k. cc;

@@ -2,7 +2,8 @@
 use Rattle.std.proofs.Common.{◌≡◌, ◌⊎◌, refl, sym, ap, ◌∙◌, subst, inl, inr, Some, None, Option, List, [], ◌∷◌, ◌++◌}
 use Rattle.std.specs.Prelude.{option_to_list}
 use Rattle.cell_world.specs.Lists.{IsOneOf}
-use Rattle.cell_world.specs.Images.{Image, Happening, global}
+use Rattle.cell_world.specs.Images.{Image, Place, Happening, global}
+use Rattle.cell_world.specs.declared.changes.Edit.{Edit}
 use Rattle.cell_world.specs.Lawful.{rows_at}
 use Rattle.cell_world.specs.Marked.{Marked, committed, jobs_after}
 use Rattle.cell_world.specs.Meaning.{meaning}
@@ -17,26 +18,26 @@ use Rattle.image_laws.proofs.JobCommits.{parts}
 use Rattle.image_laws.proofs.LocalImages.{local_meaning}
 use Rattle.image_laws.proofs.StepImages.{step_sound, settle_sound, source_done}
 use Rattle.image_laws.proofs.UnderWayLaws.{together}
-use Rattle.op_steps.specs.Passing.{IsCourse, AtEach}
+use Rattle.op_steps.specs.Passing.{IsCourse, AtEach, changed_at}
 use Rattle.op_steps.specs.Advancing.{AtStage, AdvanceStep, Stepping, Committing, Settling}
 use Rattle.op_steps.proofs.CommitLaws.{all_marked, at_one}
 use Rattle.op_steps.proofs.Courses.{course_each}
 
-pub advance_step_sound : (op : Op) (image after : Image) → Sound image → AdvanceStep op image after → Sound after
-advance_step_sound op image after sound (Stepping s) = subst Sound (sym s.is) (step_sound image sound op s.logged s.location s.here s.unborn s.last s.stepped)
-advance_step_sound op image after sound (Committing c) =
+pub advance_step_sound : (op : Op) (image : Image) (place : Place) (change : List Edit) → Sound image → AdvanceStep op image place change → Sound (changed_at image place change)
+advance_step_sound op image place change sound (Stepping s) = subst Sound (sym s.is) (step_sound image sound op s.logged s.location s.site.here s.unborn s.last s.stepped)
+advance_step_sound op image place change sound (Committing c) =
     let law = sound.logged.lawful op c.logged in
     subst Sound (sym c.is) (commit_sound image sound op law (jobs_after (global image).jobs op.extra) c.logged c.marked (parts image sound op law))
-advance_step_sound op image after sound (Settling s) = subst Sound (sym s.is) (settle_sound image sound op.number s.out s.location s.here s.last s.settled)
+advance_step_sound op image place change sound (Settling s) = subst Sound (sym s.is) (settle_sound image sound op.number s.out s.location s.here s.last s.settled)
 
 pub advance_each : (op : Op) (image : Image) → Sound image → (hs : List Happening) → IsCourse (AdvanceStep op) image hs → AtEach Sound image hs
 advance_each op image sound hs c = course_each (AdvanceStep op) Sound (advance_step_sound op) image hs sound c
 
-pub advance_meaning : (op : Op) (image : Image) → Sound image → (after : Image) → AdvanceStep op image after
-    → (meaning after ≡ meaning image) ⊎ (meaning after ≡ record (meaning image) { mappings = (committed (global image) op).mappings; jobs = (committed (global image) op).jobs })
-advance_meaning op image sound after (Stepping s) = inl (ap meaning s.is ∙ local_meaning image s.location s.last s.here)
-advance_meaning op image sound after (Committing c) = inr (ap meaning c.is ∙ commit_meaning image sound op (sound.logged.lawful op c.logged) (jobs_after (global image).jobs op.extra))
-advance_meaning op image sound after (Settling s) = inl (ap meaning s.is ∙ local_meaning image s.location s.last s.here)
+pub advance_meaning : (op : Op) (image : Image) → Sound image → (place : Place) (change : List Edit) → AdvanceStep op image place change
+    → (meaning (changed_at image place change) ≡ meaning image) ⊎ (meaning (changed_at image place change) ≡ record (meaning image) { mappings = (committed (global image) op).mappings; jobs = (committed (global image) op).jobs })
+advance_meaning op image sound place change (Stepping s) = inl (ap meaning s.is ∙ local_meaning image s.location s.last s.site.here)
+advance_meaning op image sound place change (Committing c) = inr (ap meaning c.is ∙ commit_meaning image sound op (sound.logged.lawful op c.logged) (jobs_after (global image).jobs op.extra))
+advance_meaning op image sound place change (Settling s) = inl (ap meaning s.is ∙ local_meaning image s.location s.last s.here)
 
 pub stage_marked : (op : Op) (name : StageName) (image : Image) → Sound image → AtStage op name image → Marked image op name
 stage_marked op Logged image sound w = w.logged

@@ -30,7 +30,7 @@ use Rattle.image_laws.proofs.UnderWayLaws.{begun}
 use Rattle.op_steps.specs.declared.stages.Stage.{Stage}
 use Rattle.op_steps.specs.declared.beginning.Begun.{Begun}
 use Rattle.op_steps.specs.declared.beginning.Begun.TheVariants.{Going, Pending}
-use Rattle.op_steps.specs.Passing.{Passes, IsCourse, IsTryOf, TriesAt}
+use Rattle.op_steps.specs.Passing.{Passes, IsCourse, IsTryOf, TriesAt, changed_at}
 use Rattle.op_steps.specs.Undoing.{UndoStep, AtSite, LogRow, UndoStepOf}
 use Rattle.op_steps.specs.Clearing.{IsAbandonedInWay, IsCleared, Clears}
 use Rattle.op_steps.specs.Beginning.{numbered, log_edits, IsClearOf, Logs, LogsNumbered, HasLogged, LogsOp, BeginStep, Clearing, Logging, HasBegun, Goes, Begins}
@@ -68,12 +68,12 @@ pub record StaysRead (image now : Image) : Type 0 where
   pub reads : read_tables now ≡ read_tables image
   pub counter : (global now).counter ≡ (global image).counter
 
-step_reads : (op : Op) (first image after : Image) → StaysRead first image → UndoStep op image after → StaysRead first after
-step_reads op first image after s (AtSite u) = subst (StaysRead first) (sym u.is) (record { reads = ap (λ (rows : Text → Rows). record (read_tables image) { rows_at = rows }) (same_rows_at image u.location u.last) ∙ s.reads; counter = s.counter })
-step_reads op first image after s (LogRow d) = subst (StaysRead first) (sym d.is) (record { reads = s.reads; counter = s.counter })
+step_reads : (op : Op) (first image : Image) (place : Place) (change : List Edit) → StaysRead first image → UndoStep op image place change → StaysRead first (changed_at image place change)
+step_reads op first image place change s (AtSite u) = subst (StaysRead first) (sym u.is) (record { reads = ap (λ (rows : Text → Rows). record (read_tables image) { rows_at = rows }) (same_rows_at image u.location u.last) ∙ s.reads; counter = s.counter })
+step_reads op first image place change s (LogRow d) = subst (StaysRead first) (sym d.is) (record { reads = s.reads; counter = s.counter })
 
 pub course_reads : (These : Op → Type 0) (image : Image) (hs : List Happening) → IsCourse (UndoStepOf These) image hs → StaysRead image (after_all image hs)
-course_reads These image hs c = course_keeps (UndoStepOf These) (StaysRead image) (λ i a s step. step_reads step.0 image i a s step.2) image hs (record { reads = refl; counter = refl }) c
+course_reads These image hs c = course_keeps (UndoStepOf These) (StaysRead image) (λ i p c s step. step_reads step.0 image i p c s step.2) image hs (record { reads = refl; counter = refl }) c
 
 -- ---- the log row
 
@@ -81,11 +81,11 @@ module _ (op : Op) (image : Image) (lawful : Lawful image op) (below : next_oper
   abbrev made : Op
   made = numbered op (next_operation image)
 
-  logs : LogsNumbered op image (logged_image image made)
-  logs = (next_operation image, record { lawful = lawful_numbered (read_tables image) op (next_operation image) lawful; number = refl; below = below; clear = clear; is = refl })
-
   abbrev edits : List Edit
   edits = log_edits made (counters_of (global image).counter)
+
+  logs : LogsNumbered op image Global edits
+  logs = (next_operation image, record { lawful = lawful_numbered (read_tables image) op (next_operation image) lawful; number = refl; below = below; clear = clear; place_is = refl; edits = refl; is = refl })
 
   pub log_made : (hs : List Happening) → hs ≡ Committed Global edits true ∷ [] → HasLogged op made image hs
   log_made hs e = subst (HasLogged op made image) (sym e) (record { course = (logs, tt); named = refl; after = refl })
@@ -94,8 +94,7 @@ module _ (op : Op) (image : Image) (lawful : Lawful image op) (below : next_oper
   log_tried fault.Store hs h = took h.0 h.1
     where
       took : (b : Bool) → hs ≡ Committed Global edits b ∷ [] → IsCourse (LogsNumbered op) image hs
-      took true e = subst (IsCourse (LogsNumbered op) image) (sym e) (logs, tt)
-      took false e = subst (IsCourse (LogsNumbered op) image) (sym e) (tt, tt)
+      took b e = subst (IsCourse (LogsNumbered op) image) (sym e) (logs, tt)
   log_tried fault.Memory hs h = subst (IsCourse (LogsNumbered op) image) (sym h) tt
 
 -- ---- the calls of the log row
@@ -153,8 +152,8 @@ module _ (live : List ℕ) (op : Op) (image : Image) (hs gs : List Happening) (s
 
     begin_course : IsCourse (LogsNumbered op) there gs → IsCourse (BeginStep live op) image (hs ++ gs)
     begin_course c = course_then (BeginStep live op) image hs gs
-        (course_weaker (UndoStepOf (IsAbandonedInWay live (reach_of op))) (BeginStep live op) (λ i a s. Clearing s) image hs cleared.course)
-        (course_weaker (LogsNumbered op) (BeginStep live op) (λ i a s. Logging s) there gs c)
+        (course_weaker (UndoStepOf (IsAbandonedInWay live (reach_of op))) (BeginStep live op) (λ i p c s. Clearing s) image hs cleared.course)
+        (course_weaker (LogsNumbered op) (BeginStep live op) (λ i p c s. Logging s) there gs c)
 
     pub has_begun : (m : Op) (stage : Stage) → (stage.number ≡ m.number) × (stage.name ≡ Logged) → LogsOp op (Ok m) there gs → HasBegun live op m stage image (hs ++ gs)
     has_begun m stage s l =
@@ -196,4 +195,4 @@ going live op result a b c p q = passes_then (Clears live (reach_of op) (Ok None
 
 pub way_not_cleared : (live : List ℕ) (op : Op) (f : StepFault) (a b : Outside) → Passes (Clears live (reach_of op) (Err f)) a b → Passes (Begins live op (Err f)) a b
 way_not_cleared live op f a b p = passes_weaker (Clears live (reach_of op) (Err f)) (Begins live op (Err f)) a b
-    (λ image hs k sound lawful below. course_weaker (UndoStepOf (IsAbandonedInWay live (reach_of op))) (BeginStep live op) (λ i x s. Clearing s) image hs (k sound)) p
+    (λ image hs k sound lawful below. course_weaker (UndoStepOf (IsAbandonedInWay live (reach_of op))) (BeginStep live op) (λ i p c s. Clearing s) image hs (k sound)) p

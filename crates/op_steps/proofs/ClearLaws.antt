@@ -102,7 +102,7 @@ module _ (live : List ℕ) (reach : Reach) (image : Image) (sound : Sound image)
     listed = record { logged = λ op h. stands op (in_filter (conflicts reach) ops op h).0; once = rising_differ (filter (conflicts reach) ops) (rising_filter ByNumber (conflicts reach) ops rises) }
 
     pub conflicts_undone : (ok : Type 0) (hs : List Happening) → UndoesList (filter (conflicts reach) ops) ok image hs → IsCourse (UndoStepOf (IsAbandonedInWay live reach)) image hs
-    conflicts_undone ok hs u = course_weaker (UndoStepOf (IsOneOf (filter (conflicts reach) ops))) (UndoStepOf (IsAbandonedInWay live reach)) (λ i a h. (h.0, abandoned h.0 h.1, h.2)) image hs (u sound listed).course
+    conflicts_undone ok hs u = course_weaker (UndoStepOf (IsOneOf (filter (conflicts reach) ops))) (UndoStepOf (IsAbandonedInWay live reach)) (λ i p c h. (h.0, abandoned h.0 h.1, h.2)) image hs (u sound listed).course
 
     pub way_cleared : (hs : List Happening) → UndoesList (filter (conflicts reach) ops) (true ≡ true) image hs → IsCleared live reach image hs
     way_cleared hs u = record {

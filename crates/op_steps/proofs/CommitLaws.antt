@@ -27,6 +27,7 @@ use Rattle.image_laws.proofs.StepImages.{target_done}
 use Rattle.image_laws.proofs.UnderWayLaws.{AreTogether, together}
 use Rattle.op_steps.specs.Passing.{Passes, IsTryOf, TriesAt}
 use Rattle.op_steps.specs.Advancing.{CommitsOp, Commits, sites_with}
+use Rattle.op_steps.proofs.Courses.{tried_once}
 use Rattle.op_steps.proofs.Passes.{passes_none, passes_weaker}
 use Rattle.op_steps.proofs.UndoCalls.{err_not_ok}
 
@@ -72,17 +73,11 @@ module _ (image : Image) (op : Op) (sound : Sound image) (w : IsUnderWay image o
   made : there ≡ committed_image image op
   made = ap (with_store image Global) (changed-commit (global image) op)
 
-  commits : CommitsOp op image there
-  commits = record { logged = w.logged; marked = all_marked; is = made }
+  commits : CommitsOp op image Global (commit_edits op)
+  commits = record { logged = w.logged; marked = all_marked; place_is = refl; edits = refl; is = made }
 
   pub commit_tried : (result : Result (Unit {0}) StepFault) (hs : List Happening) → IsTryOf Global (commit_edits op) result hs → Commits op (IsOk result) image hs
-  commit_tried (Ok done) hs h = subst (Commits op (true ≡ true) image) (sym h) (record { course = (commits, tt); few = omega arith; committed = λ k. made })
-  commit_tried (Err fault.Store) hs h = took h.0 h.1
-    where
-      took : (b : Bool) → hs ≡ Committed Global (commit_edits op) b ∷ [] → Commits op (false ≡ true) image hs
-      took true e = subst (Commits op (false ≡ true) image) (sym e) (record { course = (commits, tt); few = omega arith; committed = λ k. absurd (err_not_ok fault.Store k) })
-      took false e = subst (Commits op (false ≡ true) image) (sym e) (record { course = (tt, tt); few = omega arith; committed = λ k. absurd (err_not_ok fault.Store k) })
-  commit_tried (Err fault.Memory) hs h = subst (Commits op (false ≡ true) image) (sym h) (record { course = tt; few = omega arith; committed = λ k. absurd (err_not_ok fault.Memory k) })
+  commit_tried result hs h = let r = tried_once (CommitsOp op) image Global (commit_edits op) commits result hs h in record { course = r.course; few = r.few; committed = λ k. r.made k ∙ made }
 
 -- ---- the call
 

@@ -1,6 +1,6 @@
 -- How a long operation begins: its log row is put under the next number.
 use Rattle.std.specs.Prelude.{◌≡◌, ◌+◌, ◌<◌, ◌^◌, ℕ, false, List, [], ◌∷◌, Result, Ok, Err}
-use Rattle.cell_world.specs.Images.{Image, Happening, global, after_all}
+use Rattle.cell_world.specs.Images.{Image, Place, Global, Happening, global, after_all}
 use Rattle.cell_world.specs.Lawful.{Lawful}
 use Rattle.cell_world.specs.Meaning.{next_operation, counters_of}
 use Rattle.cell_world.specs.Marked.{Marked}
@@ -18,7 +18,7 @@ use Rattle.image_laws.specs.Transactions.{logged_image}
 use Rattle.op_steps.specs.declared.stages.Stage.{Stage}
 use Rattle.op_steps.specs.declared.beginning.Begun.{Begun}
 use Rattle.op_steps.specs.declared.beginning.Begun.TheVariants.{Going, Pending}
-use Rattle.op_steps.specs.Passing.{IsCourse}
+use Rattle.op_steps.specs.Passing.{IsCourse, changed_at}
 use Rattle.op_steps.specs.Undoing.{UndoStepOf}
 use Rattle.op_steps.specs.Clearing.{NoneInWay, IsLeastInWay, IsAbandonedInWay}
 
@@ -37,16 +37,23 @@ abbrev pub IsClearOf : Op → Image → Type 0
 IsClearOf op image = (other : Op) → HasLog (global image).log other → conflicts (reach_of op) other ≡ false
 
 -- A lawful operation that conflicts with no logged one is logged under the next number.
-pub record Logs (op : Op) (image after : Image) : Type 0 where
+pub record Logs (op : Op) (image : Image) (place : Place) (change : List Edit) : Type 0 where
+  -- it is lawful on what the stores stand for
   pub lawful : Lawful image op
+  -- it has the number that stands, which is below 2^63
   pub number : op.number ≡ next_operation image
   pub below : next_operation image < 2 ^ 63
+  -- it conflicts with no logged one
   pub clear : IsClearOf op image
-  pub is : after ≡ logged_image image op
+  -- its log cell is put in the global store, and the counter raised past its number
+  pub place_is : place ≡ Global
+  pub edits : change ≡ log_edits op (counters_of (global image).counter)
+  -- where that is made its log row stands, the counter is one more, and nothing else is changed
+  pub is : changed_at image place change ≡ logged_image image op
 
 -- under whatever number that is
-abbrev pub LogsNumbered : Op → Image → Image → Type 0
-LogsNumbered op image after = (number : ℕ) × Logs (numbered op number) image after
+abbrev pub LogsNumbered : Op → Image → Place → List Edit → Type 0
+LogsNumbered op image place change = (number : ℕ) × Logs (numbered op number) image place change
 
 -- the operation was logged
 pub record HasLogged (op made : Op) (image : Image) (hs : List Happening) : Type 0 where
@@ -68,9 +75,9 @@ Goes op (Err e) image hs = LogsOp op (Err e) image hs
 -- ---- the beginning
 
 -- a transaction of the beginning: an abandoned operation in the way is undone, or the log row is put
-pub data BeginStep (live : List ℕ) (op : Op) (image after : Image) : Type 0 where
-  Clearing : UndoStepOf (IsAbandonedInWay live (reach_of op)) image after → BeginStep live op image after
-  Logging : LogsNumbered op image after → BeginStep live op image after
+pub data BeginStep (live : List ℕ) (op : Op) (image : Image) (place : Place) (change : List Edit) : Type 0 where
+  Clearing : UndoStepOf (IsAbandonedInWay live (reach_of op)) image place change → BeginStep live op image place change
+  Logging : LogsNumbered op image place change → BeginStep live op image place change
 
 -- The operation has begun.
 pub record HasBegun (live : List ℕ) (op made : Op) (stage : Stage) (image : Image) (hs : List Happening) : Type 0 where

@@ -27,15 +27,18 @@ pub record Passes (P : Image → List Happening → Type 0) (old new : Outside) 
 
 -- ---- courses
 
--- a transaction was tried, and where it took it was such a step
-abbrev pub Tries : (Image → Image → Type 0) → Image → Happening → Type 0
-Tries Step image (Committed place change true) = Step image (after_one image (Committed place change true))
-Tries Step image (Committed place change false) = Unit {0}
+-- the image with a change made at a place
+abbrev pub changed_at : Image → Place → List Edit → Image
+changed_at image place change = with_store image place (changed (image.at place) change)
+
+-- A transaction was tried, and it was such a step: at this place, with this change, whether it took or not.
+abbrev pub Tries : (Image → Place → List Edit → Type 0) → Image → Happening → Type 0
+Tries Step image (Committed place change took) = Step image place change
 Tries Step image (Wrote bytes) = ⊥
 Tries Step image (Reopened place cells) = ⊥
 
--- Transactions were tried one after another from the image on, and each that took was such a step. Nothing else happened.
-abbrev pub IsCourse : (Image → Image → Type 0) → Image → List Happening → Type 0
+-- Transactions were tried one after another from the image on, and each was such a step. One that took is made, and one that didn't leaves the image. Nothing else happened.
+abbrev pub IsCourse : (Image → Place → List Edit → Type 0) → Image → List Happening → Type 0
 IsCourse Step image [] = Unit {0}
 IsCourse Step image (h ∷ hs) = Tries Step image h × IsCourse Step (after_one image h) hs
 

@@ -1,16 +1,17 @@
 //! What the transactions of operations leave of the stores, at each moment. Each law is the contract of a function that does nothing.
 ghost use Rattle.std.specs.Prelude.{◌≡◌, ◌≢◌, ◌⊎◌, ℕ, List};
-ghost use Rattle.cell_world.specs.Images.{Image, Happening, global};
+ghost use Rattle.cell_world.specs.Images.{Image, Happening, Place, global};
 ghost use Rattle.cell_world.specs.Marked.{Marked, committed};
 ghost use Rattle.cell_world.specs.Meaning.{meaning};
 ghost use Rattle.cell_world.specs.Sound.{Sound};
 ghost use Rattle.cell_world.specs.declared.operations.Op.{Op};
 ghost use Rattle.cell_world.specs.declared.operations.StageName.{StageName};
 ghost use Rattle.cell_world.specs.declared.operations.Reach.{Reach};
+ghost use Rattle.cell_world.specs.declared.changes.Edit.{Edit};
 ghost use Rattle.op_log.specs.ShortChanges.{ShortChange};
 ghost use Rattle.op_steps.specs.Advancing.{AdvanceStep, AtStage};
 ghost use Rattle.op_steps.specs.Beginning.{BeginStep, Logs};
-ghost use Rattle.op_steps.specs.Passing.{AtEach, IsCourse};
+ghost use Rattle.op_steps.specs.Passing.{AtEach, IsCourse, changed_at};
 ghost use Rattle.op_steps.specs.Undoing.{AnyUndoStep, UndoStep};
 
 /// While operations are undone, wherever that stops, each image is sound and stands for the same.
@@ -27,8 +28,8 @@ pub fn beginning_keeps_sound_and_meaning()
 /// While an operation goes on, wherever that stops, each image is sound. What the stores stand for stays but at the commit, which puts the new mappings in place of the old ones and puts the job.
 pub fn advancing_keeps_sound()
     ensures sound { (op : Op) (image : Image) → Sound image → (hs : List Happening) → IsCourse (AdvanceStep op) image hs → AtEach Sound image hs }
-    ensures meaning { (op : Op) (image : Image) → Sound image → (after : Image) → AdvanceStep op image after →
-        (meaning after ≡ meaning image) ⊎ (meaning after ≡ record (meaning image) { mappings = (committed (global image) op).mappings; jobs = (committed (global image) op).jobs }) }
+    ensures meaning { (op : Op) (image : Image) → Sound image → (place : Place) (change : List Edit) → AdvanceStep op image place change →
+        (meaning (changed_at image place change) ≡ meaning image) ⊎ (meaning (changed_at image place change) ≡ record (meaning image) { mappings = (committed (global image) op).mappings; jobs = (committed (global image) op).jobs }) }
 {}
 
 /// What is carried at a stage is what the cells say of it: the operation is marked so.
@@ -38,8 +39,8 @@ pub fn stages_are_marked()
 
 /// What is carried of an operation at a stage stays while another one goes on, is undone, or begins, and through each short change and each row that is put or deleted. Marked at a stage, at Settled too, it stays so; no mark of it comes to another site.
 pub fn others_leave_stages()
-    ensures goes_on { (op other : Op) (name : StageName) (image after : Image) → Sound image → other.number ≢ op.number → AtStage op name image → AdvanceStep other image after → AtStage op name after }
-    ensures undone { (op other : Op) (name : StageName) (image after : Image) → Sound image → other.number ≢ op.number → AtStage op name image → UndoStep other image after → AtStage op name after }
-    ensures begins { (op other : Op) (name : StageName) (image after : Image) → Sound image → AtStage op name image → Logs other image after → AtStage op name after }
+    ensures goes_on { (op other : Op) (name : StageName) (image : Image) (place : Place) (change : List Edit) → Sound image → other.number ≢ op.number → AtStage op name image → AdvanceStep other image place change → AtStage op name (changed_at image place change) }
+    ensures undone { (op other : Op) (name : StageName) (image : Image) (place : Place) (change : List Edit) → Sound image → other.number ≢ op.number → AtStage op name image → UndoStep other image place change → AtStage op name (changed_at image place change) }
+    ensures begins { (op other : Op) (name : StageName) (image : Image) (place : Place) (change : List Edit) → Sound image → AtStage op name image → Logs other image place change → AtStage op name (changed_at image place change) }
     ensures short { (op : Op) (name : StageName) (reached : Reach) (image after : Image) → AtStage op name image → ShortChange image reached after → AtStage op name after }
 {}
