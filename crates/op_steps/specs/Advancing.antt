@@ -20,6 +20,7 @@ use Rattle.image_laws.specs.CommitEdits.{commit_edits}
 use Rattle.local_tables.specs.Altering.{to_mark, to_settle}
 use Rattle.op_log.specs.Sites.{AreAtMostTwo}
 use Rattle.op_steps.specs.Passing.{IsCourse, changed_at}
+use Rattle.op_steps.specs.Stages.{next_stage}
 use Rattle.op_steps.specs.Undoing.{IsOwnSite}
 
 -- ---- the transactions
@@ -149,13 +150,6 @@ AtStage op SourceDone image = IsUnderWay image op (locations_of (option_to_list 
 AtStage op TargetDone image = IsUnderWay image op (sites_with op.news.one op.olds.one)
 AtStage op Committed image = IsCommitted op image
 AtStage op Settled image = IsCommitted op image × Marked image op Settled
-
-abbrev pub next_stage : StageName → StageName
-next_stage Logged = SourceDone
-next_stage SourceDone = TargetDone
-next_stage TargetDone = Committed
-next_stage Committed = Settled
-next_stage Settled = Settled
 
 -- how many transactions are tried at most: one, but when it settles one at each of its sites, and then none
 abbrev pub most_tries : StageName → ℕ

@@ -23,6 +23,7 @@ use Rattle.op_steps.specs.declared.beginning.Begun.{Begun}
 use Rattle.op_steps.specs.declared.beginning.Begun.TheVariants.{Going, Pending}
 use Rattle.op_steps.specs.Passing.{IsCourse, changed_at}
 use Rattle.op_steps.specs.Undoing.{UndoStepOf}
+use Rattle.op_steps.specs.Stages.{number_of, name_of}
 use Rattle.op_steps.specs.Clearing.{is_in_way, NoneInWay, IsLeastInWay, IsAbandonedInWay}
 
 -- ---- the log row
@@ -152,9 +153,9 @@ pub record IsFirstStage (op made : Op) (stage : Stage) : Type 0 where
   -- nothing of the operation but its number changed
   pub asked : made ≡ numbered op made.number
   -- the stage has that number
-  pub number : stage.number ≡ made.number
+  pub number : number_of stage ≡ made.number
   -- and is the first one
-  pub name : stage.name ≡ Logged
+  pub name : name_of stage ≡ Logged
 
 abbrev pub SaysBegun : List ℕ → Op → Result Begun BeginFault → Type 0
 SaysBegun live op (Ok (Going made stage)) = IsFirstStage op made stage

@@ -115,7 +115,7 @@ fn drop_log_row<W: World>(alloc: Global, world: &mut W, op: &Op) -> Result<(), S
 
 /// Undoes one logged operation: its marks are taken back at each of its sites, and then its log row goes. Its log cell stands and is this operation.
 ///
-/// What the stores stand for stays, whatever is answered. `Store`: a store refused. After an error the operation may be undone in part, and wholly after `Store`; to undo it once more does the rest.
+/// What the stores stand for stays, whatever is answered. `Store`: a store refused. After an error the operation may be undone in part, and after `Store` wholly: look at the log first, and where its log row still stands, to undo it once more does the rest.
 pub fn undo<W: World>(alloc: Global, world: &mut W, op: &Op) -> Result<(), StepFault>
     ensures passes { Passes (Undoes op.now (IsOk result)) (W.outside world.old) (W.outside world.new) }
     ensures cause { IsErrOf result StepFault.Store → StoreRoseBy 1 (W.outside world.old) (W.outside world.new) }
@@ -140,7 +140,7 @@ pub fn undo_all<W: World>(alloc: Global, world: &mut W, ops: &[Op]) -> Result<()
     Ok(())
 }
 
-/// Undoes all logged operations, in order of number.
+/// Undoes all logged operations, one after another.
 ///
 /// What the stores stand for stays, whatever is answered. `Store`: a store refused. After an error some may be undone, and one in part; to recover once more does the rest.
 pub fn recover<W: World>(alloc: Global, world: &mut W) -> Result<(), StepFault>
