@@ -1,16 +1,13 @@
 -- An operation goes on from each stage to the next.
-use Rattle.std.proofs.Common.{◌≡◌, ◌≤◌, ◌<◌, true, false, refl, sym, ap, ◌∙◌, subst, Some, None, Option, List, [], ◌∷◌, ◌++◌, arith}
+use Rattle.std.proofs.Common.{◌≡◌, ◌<◌, true, refl, sym, subst, Some, None, Option, [], arith}
 use Rattle.std.specs.Prelude.{IsTrue, option_to_list}
 use Rattle.std.specs.FinMap as map
 use Rattle.std.proofs.lemmas.Cmp.{nat_cmp_total}
-use Rattle.cell_world.specs.Texts.{Text}
 use Rattle.cell_world.specs.Keys.{is_among}
-use Rattle.cell_world.specs.Lists.{IsOneOf}
 use Rattle.cell_world.specs.Stores.{Store}
-use Rattle.cell_world.specs.Images.{Image, Happening, global, after_all}
+use Rattle.cell_world.specs.Images.{Image, global, after_all}
 use Rattle.cell_world.specs.Meaning.{counters_of}
-use Rattle.cell_world.specs.Lawful.{Lawful}
-use Rattle.cell_world.specs.Marked.{Marked, MarkedOn, HasNoMark, IsOutOfLog, mark_tables, NoMarksElsewhere, committed_image}
+use Rattle.cell_world.specs.Marked.{HasNoMark, committed_image}
 use Rattle.cell_world.specs.Operations.{locations_of, sites_of}
 use Rattle.cell_world.specs.Outside.{Outside}
 use Rattle.cell_world.specs.Sound.{Sound, HasLog, IsAttachedIn, locals_at}
@@ -26,8 +23,8 @@ use Rattle.cell_world.proofs.StoreLaws.{get-remove_same}
 use Rattle.image_laws.proofs.NoMarks.{none_elsewhere}
 use Rattle.image_laws.proofs.Places.{site_attached}
 use Rattle.op_log.proofs.TwoSites.{two_sites}
-use Rattle.op_steps.specs.Passing.{Passes, IsCourse}
-use Rattle.op_steps.specs.Advancing.{StepsAt, CommitsOp, SettlesAt, Marks, Commits, SettlesBoth, sites_with, IsCommitted, AtStage, AdvanceStep, Stepping, Committing, Settling, HasAdvanced, Advances}
+use Rattle.op_steps.specs.Passing.{Passes}
+use Rattle.op_steps.specs.Advancing.{StepsAt, CommitsOp, SettlesAt, sites_with, IsCommitted, AdvanceStep, Stepping, Committing, Settling, Advances}
 use Rattle.op_steps.proofs.CommitLaws.{CommitsOne}
 use Rattle.op_steps.proofs.Courses.{course_weaker}
 use Rattle.op_steps.proofs.MarkLaws.{MarksBeside}

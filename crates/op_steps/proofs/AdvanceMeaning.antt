@@ -1,7 +1,5 @@
 -- What an operation that goes on leaves of the stores.
-use Rattle.std.proofs.Common.{◌≡◌, ◌⊎◌, refl, sym, ap, ◌∙◌, subst, inl, inr, Some, None, Option, List, [], ◌∷◌, ◌++◌}
-use Rattle.std.specs.Prelude.{option_to_list}
-use Rattle.cell_world.specs.Lists.{IsOneOf}
+use Rattle.std.proofs.Common.{◌≡◌, ◌⊎◌, sym, ap, ◌∙◌, subst, inl, inr, List}
 use Rattle.cell_world.specs.Images.{Image, Place, Happening, global}
 use Rattle.cell_world.specs.declared.changes.Edit.{Edit}
 use Rattle.cell_world.specs.Lawful.{rows_at}
@@ -10,7 +8,6 @@ use Rattle.cell_world.specs.Meaning.{meaning}
 use Rattle.cell_world.specs.Sound.{Sound}
 use Rattle.cell_world.specs.Spelled.{listed}
 use Rattle.cell_world.specs.declared.operations.Op.{Op}
-use Rattle.cell_world.specs.declared.operations.Piece.{Piece}
 use Rattle.cell_world.specs.declared.operations.StageName.{StageName}
 use Rattle.cell_world.specs.declared.operations.StageName.TheVariants.{Logged, SourceDone, TargetDone, Committed, Settled}
 use Rattle.image_laws.proofs.CommitImages.{commit_sound, commit_meaning}

@@ -1,25 +1,22 @@
 -- The beginning of an operation.
-use Rattle.std.proofs.Common.{◌≡◌, ◌<◌, ◌+◌, ◌^◌, ℕ, Bool, true, false, refl, sym, ap, ◌∙◌, subst, Some, None, Option, inl, inr, List, [], ◌∷◌, ◌++◌}
-use Rattle.std.specs.Prelude.{Result, Ok, Err, IsOk}
+use Rattle.std.proofs.Common.{◌≡◌, ◌<◌, ◌+◌, ◌^◌, ℕ, Bool, true, refl, sym, ap, ◌∙◌, subst, Some, None, Option, List, [], ◌∷◌, ◌++◌}
+use Rattle.std.specs.Prelude.{Result, Ok, Err}
 use Rattle.std.proofs.lemmas.Cmp.{nat_cmp_total}
 use Rattle.cell_world.specs.Texts.{Text}
-use Rattle.cell_world.specs.Stores.{Rows, put, changed}
-use Rattle.cell_world.specs.Images.{Image, Place, Global, Happening, Committed, global, with_store, after_all}
-use Rattle.cell_world.specs.Lawful.{ReadTables, read_tables, rows_at, LawfulOn, Lawful, IsOfJob, IsStepOf, job_of_pieces}
+use Rattle.cell_world.specs.Stores.{Rows}
+use Rattle.cell_world.specs.Images.{Image, Place, Global, Happening, Committed, global, after_all}
+use Rattle.cell_world.specs.Lawful.{ReadTables, read_tables, LawfulOn, Lawful, IsOfJob, job_of_pieces}
 use Rattle.cell_world.specs.Meaning.{next_operation, counters_of}
-use Rattle.cell_world.specs.Operations.{conflicts, reach_of}
+use Rattle.cell_world.specs.Operations.{reach_of}
 use Rattle.cell_world.specs.Outside.{Outside, IfContents, IsLater}
 use Rattle.cell_world.specs.Sound.{Sound, HasLog}
 use Rattle.cell_world.specs.Spelled.{listed}
 use Rattle.cell_world.specs.UnderWay.{IsUnderWay}
 use Rattle.cell_world.specs.declared.operations.Op.{Op}
 use Rattle.cell_world.specs.declared.operations.JobRow.{JobRow}
-use Rattle.cell_world.specs.declared.operations.StageName.TheVariants.{Logged}
 use Rattle.cell_world.specs.declared.cells.Counters.{Counters}
-use Rattle.cell_world.specs.declared.cells.Cell.TheVariants as cell
 use Rattle.cell_world.specs.declared.changes.Edit.{Edit}
-use Rattle.cell_world.specs.declared.changes.Edit.TheVariants.{Put}
-use Rattle.cell_world.proofs.ContentsLaws.{contents_all, contents_weaker}
+use Rattle.cell_world.proofs.ContentsLaws.{contents_all}
 use Rattle.cell_world.proofs.OutsideLaws.{later_same}
 use Rattle.cell_world.proofs.StoreLaws.{get-insert_same}
 use Rattle.global_tables.specs.declared.faults.StepFault.{StepFault}

@@ -1,10 +1,10 @@
 -- The commit of an operation, on images and in its calls.
-use Rattle.std.proofs.Common.{◌≡◌, ◌≤◌, Bool, true, false, ◌||◌, refl, sym, ap, ◌∙◌, subst, Some, None, Option, is_some, inl, inr, List, [], ◌∷◌, ◌++◌, append_assoc, arith}
-use Rattle.std.specs.Prelude.{Result, Ok, Err, IsOk, option_to_list}
+use Rattle.std.proofs.Common.{◌≡◌, true, false, ◌||◌, refl, sym, ap, ◌∙◌, subst, Some, None, Option, is_some, inl, List, [], ◌∷◌, ◌++◌, append_assoc, arith}
+use Rattle.std.specs.Prelude.{Result, IsOk, option_to_list}
 use Rattle.std.specs.Option.{is_none}
 use Rattle.cell_world.specs.Stores.{changed}
 use Rattle.cell_world.specs.Lists.{IsOneOf}
-use Rattle.cell_world.specs.Images.{Image, Global, Happening, Committed, global, with_store, after_all}
+use Rattle.cell_world.specs.Images.{Image, Global, Happening, global, with_store}
 use Rattle.cell_world.specs.Lawful.{Lawful, rows_at}
 use Rattle.cell_world.specs.Marked.{Marked, committed_image}
 use Rattle.cell_world.specs.Operations.{locations_of}

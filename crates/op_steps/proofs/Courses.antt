@@ -1,5 +1,5 @@
 -- Courses, one after another.
-use Rattle.std.proofs.Common.{◌≡◌, ◌≤◌, Bool, true, false, refl, sym, subst, List, [], ◌∷◌, ◌++◌, length, arith}
+use Rattle.std.proofs.Common.{◌≡◌, ◌≤◌, true, false, refl, sym, subst, List, [], ◌∷◌, ◌++◌, length, arith}
 use Rattle.std.specs.Prelude.{Result, Ok, Err, IsOk}
 use Rattle.cell_world.specs.Images.{Image, Place, Happening, Committed, Wrote, Reopened, after_one, after_all}
 use Rattle.cell_world.specs.declared.changes.Edit.{Edit}

@@ -1,15 +1,15 @@
 -- The local step of an operation at a site, on images and in its calls.
-use Rattle.std.proofs.Common.{◌≡◌, ◌⊎◌, ◌≤◌, Bool, true, false, refl, sym, ap, ◌∙◌, subst, Some, None, Option, inl, inr, List, [], ◌∷◌, ◌++◌, true≢false, arith}
-use Rattle.std.specs.Prelude.{Result, Ok, Err, IsOk, option_to_list}
-use Rattle.std.proofs.lemmas.Option.{same_Some, none-some}
+use Rattle.std.proofs.Common.{◌≡◌, true, false, refl, sym, ap, ◌∙◌, subst, Some, None, Option, inl, inr, List, [], ◌∷◌, true≢false, arith}
+use Rattle.std.specs.Prelude.{Result, IsOk, option_to_list}
+use Rattle.std.proofs.lemmas.Option.{none-some}
 use Rattle.cell_world.specs.Texts.{Text}
 use Rattle.cell_world.specs.Lists.{IsOneOf}
 use Rattle.cell_world.specs.Keys.{same}
 use Rattle.cell_world.specs.Stores.{Store, Locals, changed}
-use Rattle.cell_world.specs.Images.{Image, Shard, Happening, Committed, global, with_store, after_all}
+use Rattle.cell_world.specs.Images.{Image, Shard, Happening, global, with_store}
 use Rattle.cell_world.specs.Operations.{locations_of}
 use Rattle.cell_world.specs.Outside.{Outside, IfContents, IsLater, site_number}
-use Rattle.cell_world.specs.Sound.{Sound, HasLog, IsAttachedIn, locals_at}
+use Rattle.cell_world.specs.Sound.{Sound, HasLog, locals_at}
 use Rattle.cell_world.specs.UnderWay.{IsDone, IsUnderWay}
 use Rattle.cell_world.specs.declared.cells.Site.{Site}
 use Rattle.cell_world.specs.declared.operations.Op.{Op}
@@ -19,7 +19,6 @@ use Rattle.cell_world.proofs.ContentsLaws.{contents_all, contents_weaker}
 use Rattle.cell_world.proofs.OutsideLaws.{later_same}
 use Rattle.cell_world.proofs.SpanLaws.{same_is, same_self}
 use Rattle.global_tables.specs.declared.faults.StepFault.{StepFault}
-use Rattle.global_tables.specs.declared.faults.StepFault.TheVariants as fault
 use Rattle.image_laws.specs.LocalSteps.{IsStepped, with_locals}
 use Rattle.image_laws.specs.RowEdits.{Leaves}
 use Rattle.image_laws.proofs.StepLaws.{stepped_done}

@@ -1,12 +1,12 @@
 -- Which log cells the transactions were to put, and what they leave of the counter.
-use Rattle.std.proofs.Common.{◌≡◌, ◌+◌, ℕ, Bool, true, false, cond, refl, sym, ap, ◌∙◌, subst, Some, None, Option, List, [], ◌∷◌, ◌++◌, append_assoc}
+use Rattle.std.proofs.Common.{◌≡◌, ◌+◌, ℕ, Bool, true, false, cond, refl, sym, ap, subst, Some, None, Option, List, [], ◌∷◌, ◌++◌, append_assoc}
 use Rattle.cell_world.specs.Texts.{Text}
 use Rattle.cell_world.specs.Keys.{same}
 use Rattle.cell_world.specs.Images.{Image, Place, global}
 use Rattle.cell_world.specs.Sound.{locals_at}
 use Rattle.cell_world.specs.Stores.{Log, Locals}
 use Rattle.cell_world.specs.Sweep.{sweep}
-use Rattle.cell_world.specs.Meaning.{next_operation, counters_of}
+use Rattle.cell_world.specs.Meaning.{next_operation}
 use Rattle.cell_world.specs.Spelled.{listed}
 use Rattle.cell_world.specs.UnderWay.{new_row}
 use Rattle.cell_world.specs.declared.operations.Op.{Op}

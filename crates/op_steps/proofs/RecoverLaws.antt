@@ -1,5 +1,5 @@
 -- The undo of several operations.
-use Rattle.std.proofs.Common.{◌≡◌, ◌≢◌, ◌⊎◌, ◌<◌, ◌+◌, ℕ, suc, true, false, refl, sym, ap, ◌∙◌, subst, Some, None, Option, inl, inr, List, [], ◌∷◌, ◌++◌, length, take, drop, arith}
+use Rattle.std.proofs.Common.{◌≡◌, ◌≢◌, ◌<◌, ◌+◌, ℕ, suc, true, refl, sym, ap, ◌∙◌, subst, Some, None, Option, inl, inr, List, [], ◌∷◌, ◌++◌, length, take, drop}
 use Rattle.std.specs.Prelude.{IfSome}
 use Rattle.std.specs.FinMap as map
 use Rattle.std.specs.Ordering.{nat_cmp}
@@ -9,7 +9,7 @@ use Rattle.std.proofs.lemmas.Cmp.{nat_cmp_total, tied_itself}
 use Rattle.std.proofs.lemmas.List.{take_more, take-append-drop}
 use Rattle.std.proofs.Math.Seq.{drop-cons}
 use Rattle.std.proofs.lemmas.Map.Lookups.{exact_unsigned}
-use Rattle.std.proofs.lemmas.Option.{none-some, same_Some}
+use Rattle.std.proofs.lemmas.Option.{none-some}
 use Rattle.cell_world.specs.Lists.{IsOneOf}
 use Rattle.cell_world.specs.Stores.{Log}
 use Rattle.cell_world.specs.Images.{Image, Place, Happening, Global, global, after_all}
@@ -23,7 +23,7 @@ use Rattle.global_tables.proofs.Entries.{entry_stands, entries_rise}
 use Rattle.global_tables.proofs.Rising.{Rising, rising_map_in}
 use Rattle.image_laws.proofs.StepImages.{undo_sound, unlogged_sound}
 use Rattle.op_steps.specs.Passing.{IsCourse, changed_at}
-use Rattle.op_steps.specs.Undoing.{UndoesAt, Drops, UndoStep, AtSite, LogRow, UndoStepOf, AnyUndoStep, UndoesOp, Undoes, without_ops, AreLogged, OpsDiffer, UndoesOps, UndoesList, UndoesAll}
+use Rattle.op_steps.specs.Undoing.{UndoStep, AtSite, LogRow, UndoStepOf, AnyUndoStep, Undoes, without_ops, AreLogged, OpsDiffer, UndoesOps, UndoesList, UndoesAll}
 use Rattle.op_steps.proofs.Courses.{course_keeps, course_then, course_weaker, after_then}
 
 -- ---- a step of undo keeps an image sound

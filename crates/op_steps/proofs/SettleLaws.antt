@@ -1,6 +1,6 @@
 -- The settling of a committed operation, on images and in its calls.
-use Rattle.std.proofs.Common.{◌≡◌, ◌⊎◌, ◌≤◌, ◌+◌, Bool, true, false, refl, sym, ap, ◌∙◌, subst, Some, None, Option, inl, inr, List, [], ◌∷◌, ◌++◌, length, length-append, true≢false, arith}
-use Rattle.std.specs.Prelude.{Result, Ok, Err, IsOk, IsTrue, IfSome, option_to_list}
+use Rattle.std.proofs.Common.{◌≡◌, ◌⊎◌, ◌+◌, Bool, true, false, refl, sym, ap, ◌∙◌, subst, Some, None, Option, inl, inr, List, [], ◌++◌, length, length-append, true≢false, arith}
+use Rattle.std.specs.Prelude.{Result, IsOk, IsTrue, IfSome, option_to_list}
 use Rattle.std.specs.FinMap as map
 use Rattle.std.proofs.lemmas.Bool.{cases_Bool}
 use Rattle.std.proofs.lemmas.Option.{same_Some, none-some}
@@ -9,7 +9,6 @@ use Rattle.cell_world.specs.Keys.{same, is_among}
 use Rattle.cell_world.specs.Lists.{IsOneOf}
 use Rattle.cell_world.specs.Stores.{Store, Locals, changed}
 use Rattle.cell_world.specs.Images.{Image, Place, Shard, Happening, global, with_store, after_all}
-use Rattle.cell_world.specs.Lawful.{IsAttached}
 use Rattle.cell_world.specs.Marked.{HasNoMark}
 use Rattle.cell_world.specs.Operations.{sites_of}
 use Rattle.cell_world.specs.Outside.{Outside, IfContents, IsLater, site_number}
@@ -22,7 +21,6 @@ use Rattle.cell_world.proofs.ContentsLaws.{contents_all, contents_weaker}
 use Rattle.cell_world.proofs.OutsideLaws.{later_same}
 use Rattle.cell_world.proofs.SpanLaws.{same_is}
 use Rattle.global_tables.specs.declared.faults.StepFault.{StepFault}
-use Rattle.global_tables.specs.declared.faults.StepFault.TheVariants as fault
 use Rattle.image_laws.specs.LocalSteps.{IsSettled, with_locals}
 use Rattle.image_laws.specs.RowEdits.{Leaves}
 use Rattle.image_laws.proofs.StepImages.{settle_sound, settled_clean}

@@ -1,11 +1,10 @@
 -- What others leave of an operation at a stage.
-use Rattle.std.proofs.Common.{◌≡◌, ◌≢◌, ◌<◌, ◌+◌, ℕ, Bool, true, false, cond, refl, sym, ap, ◌∙◌, subst, Some, None, Option, inl, inr, List, [], ◌∷◌, ◌++◌, arith}
+use Rattle.std.proofs.Common.{◌≡◌, ◌≢◌, ◌<◌, Bool, true, false, cond, refl, sym, ap, ◌∙◌, subst, None, inl, inr, List, [], arith}
 use Rattle.std.specs.FinMap as map
-use Rattle.std.proofs.lemmas.Bool.{cases_Bool, and_parts}
+use Rattle.std.proofs.lemmas.Bool.{cases_Bool}
 use Rattle.std.proofs.lemmas.Cmp.{nat_cmp_total}
 use Rattle.std.proofs.lemmas.Map.Lookups.{exact_unsigned}
 use Rattle.cell_world.specs.Texts.{Text}
-use Rattle.cell_world.specs.Lists.{IsOneOf}
 use Rattle.cell_world.specs.Keys.{same, overlaps}
 use Rattle.cell_world.specs.Plain.{is_attached}
 use Rattle.cell_world.specs.Stores.{Store, Locals}
@@ -13,7 +12,7 @@ use Rattle.cell_world.specs.Images.{Image, Place, Global, Shard, global, with_st
 use Rattle.cell_world.specs.declared.changes.Edit.{Edit}
 use Rattle.cell_world.specs.Meaning.{next_operation, counters_of}
 use Rattle.cell_world.specs.Marked.{HasNoMark, MarkTables, mark_tables, MarkedOn, NoMarksElsewhereOn}
-use Rattle.cell_world.specs.Operations.{conflicts, reach_of, sites_of}
+use Rattle.cell_world.specs.Operations.{sites_of}
 use Rattle.cell_world.specs.Sound.{Sound, HasLog, IsAttachedIn, locals_at}
 use Rattle.cell_world.specs.Sweep.{IsSwept}
 use Rattle.cell_world.specs.UnderWay.{IsDone, IsUnborn, IsUnderWay, UnderWayOn}
@@ -189,9 +188,9 @@ row_leaves op name image l s e = by name
     by Committed c = kept c
     by Settled c = (kept c.0, subst (λ (t : MarkTables). MarkedOn t op Settled) tables c.1)
 
-pub short_leaves : (op : Op) (name : StageName) (reached : Reach) (image after : Image) → AtStage op name image → ShortChange image reached after → AtStage op name after
-short_leaves op name reached image after at (Catalog r maps shards tables serves is) = subst (AtStage op name) (sym is) (stage_global op image _ refl (λ h. h) (λ e. e) (λ lt. lt) name at)
-short_leaves op name reached image after at (Unshard map_name location r here unmapped untargeted is) = subst (AtStage op name) (sym is) (stage_global op image _ refl (λ h. h) (λ e. e) (λ lt. lt) name at)
-short_leaves op name reached image after at (Retoken p has r token old_free new_free is) = subst (AtStage op name) (sym is) (stage_global op image _ refl (λ h. h) (λ e. e) (λ lt. lt) name at)
-short_leaves op name reached image after at (PutRow r row bytes p owned online here tabled is) = subst (AtStage op name) (sym is) (row_leaves op name image p.location _ refl at)
-short_leaves op name reached image after at (DeleteRow r row p owned online here is) = subst (AtStage op name) (sym is) (row_leaves op name image p.location _ refl at)
+pub short_leaves : (op : Op) (name : StageName) (reached : Reach) (image now : Image) → AtStage op name image → ShortChange image reached now → AtStage op name now
+short_leaves op name reached image now at (Catalog r maps shards tables serves is) = subst (AtStage op name) (sym is) (stage_global op image _ refl (λ h. h) (λ e. e) (λ lt. lt) name at)
+short_leaves op name reached image now at (Unshard map_name location r here unmapped untargeted is) = subst (AtStage op name) (sym is) (stage_global op image _ refl (λ h. h) (λ e. e) (λ lt. lt) name at)
+short_leaves op name reached image now at (Retoken p has r token old_free new_free is) = subst (AtStage op name) (sym is) (stage_global op image _ refl (λ h. h) (λ e. e) (λ lt. lt) name at)
+short_leaves op name reached image now at (PutRow r row bytes p owned online here tabled is) = subst (AtStage op name) (sym is) (row_leaves op name image p.location _ refl at)
+short_leaves op name reached image now at (DeleteRow r row p owned online here is) = subst (AtStage op name) (sym is) (row_leaves op name image p.location _ refl at)

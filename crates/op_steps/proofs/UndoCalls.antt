@@ -1,17 +1,17 @@
 -- The calls of undo, one after another.
 use Rattle.std.proofs.Common.{◌≡◌, ◌⊎◌, true, false, refl, sym, ap, ◌∙◌, subst, Some, None, Option, inl, inr, List, [], ◌∷◌}
-use Rattle.std.specs.Prelude.{Result, Ok, Err, IsOk, IsSome, IsErrOf}
+use Rattle.std.specs.Prelude.{Result, Err, IsOk, IsSome, IsErrOf}
 use Rattle.std.specs.FinMap as map
 use Rattle.cell_world.specs.Counts.{Rose}
-use Rattle.std.proofs.lemmas.Option.{same_Some, none-some}
-use Rattle.cell_world.specs.Images.{Image, Place, Global, Shard, Happening, global, after_all}
+use Rattle.std.proofs.lemmas.Option.{same_Some}
+use Rattle.cell_world.specs.Images.{Image, Global, Shard, Happening, global, after_all}
 use Rattle.cell_world.specs.Keys.{same}
 use Rattle.cell_world.specs.declared.cells.CellKey.TheVariants as at
 use Rattle.cell_world.specs.declared.changes.Edit.TheVariants.{Delete}
 use Rattle.cell_world.proofs.SpanLaws.{same_is}
 use Rattle.image_laws.specs.LocalSteps.{IsUndone}
 use Rattle.cell_world.specs.Outside.{Outside, IfContents, IsLater, IsSite, StoreRoseBy, place_at, site_number}
-use Rattle.cell_world.specs.Sound.{Sound, HasLog, IsAttachedIn, locals_at}
+use Rattle.cell_world.specs.Sound.{Sound, HasLog, locals_at}
 use Rattle.cell_world.specs.Sweep.{IsSweptPlain}
 use Rattle.cell_world.specs.Texts.{Text}
 use Rattle.cell_world.specs.declared.cells.Site.{Site}
@@ -27,7 +27,7 @@ use Rattle.local_tables.specs.Altering.{IsSiteOf, to_undo, if_any}
 use Rattle.op_steps.specs.Passing.{Passes, IsTryOf, TriesAt}
 use Rattle.op_steps.specs.Undoing.{IsOwnSite, PlainsSites, IsPlainAt, IsOwnAt, DropsRow, UndoesList, Recovers}
 use Rattle.op_steps.proofs.Passes.{passes_none, passes_found, passes_weaker}
-use Rattle.op_steps.proofs.Rises.{rose_at, rose_global, rose_after}
+use Rattle.op_steps.proofs.Rises.{rose_at, rose_global}
 use Rattle.op_steps.proofs.RecoverLaws.{none_undone, recovered}
 use Rattle.op_steps.proofs.UndoLaws.{nothing_undone, tried_there, tried_drop}
 

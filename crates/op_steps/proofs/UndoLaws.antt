@@ -1,12 +1,11 @@
 -- The undo of an operation, on images.
-use Rattle.std.proofs.Common.{◌≡◌, Bool, true, false, refl, sym, ap, ◌∙◌, subst, Some, None, Option, inl, inr, List, [], ◌∷◌, ◌++◌}
-use Rattle.std.specs.Prelude.{Result, Ok, Err, IsOk, option_to_list}
+use Rattle.std.proofs.Common.{◌≡◌, true, false, refl, sym, ap, ◌∙◌, subst, Some, None, Option, inl, inr, List, [], ◌∷◌, ◌++◌}
+use Rattle.std.specs.Prelude.{Result, Err, IsOk, option_to_list}
 use Rattle.std.specs.FinMap as map
 use Rattle.std.proofs.lemmas.Option.{same_Some, none-some}
 use Rattle.cell_world.specs.Texts.{Text}
-use Rattle.cell_world.specs.Stores.{Store, Log, Locals, AwaySites, changed}
+use Rattle.cell_world.specs.Stores.{Store, Locals, changed}
 use Rattle.cell_world.specs.Images.{Image, Place, Global, Shard, Happening, global, with_store, after_all}
-use Rattle.cell_world.specs.Lawful.{IsAttached}
 use Rattle.cell_world.specs.Marked.{marked_sites}
 use Rattle.cell_world.specs.Spelled.{listed}
 use Rattle.cell_world.specs.Lists.{IsOneOf}
@@ -19,13 +18,12 @@ use Rattle.cell_world.specs.declared.cells.CellKey.TheVariants as at
 use Rattle.cell_world.specs.declared.changes.Edit.{Edit}
 use Rattle.cell_world.specs.declared.changes.Edit.TheVariants.{Delete}
 use Rattle.cell_world.specs.declared.cells.LocalRow.{LocalRow}
-use Rattle.cell_world.proofs.ListLaws.{all_at, one_of_two, in_first, in_second}
+use Rattle.cell_world.proofs.ListLaws.{one_of_two, in_first, in_second}
 use Rattle.global_tables.specs.declared.faults.StepFault.{StepFault}
-use Rattle.global_tables.specs.declared.faults.StepFault.TheVariants as fault
-use Rattle.image_laws.specs.LocalSteps.{IsUndone, with_locals, without_log_row}
+use Rattle.image_laws.specs.LocalSteps.{IsUndone, with_locals}
 use Rattle.image_laws.proofs.EditImages.{edits_undo}
 use Rattle.image_laws.proofs.Places.{old_site, new_site, site_attached, location_in, is_among_of}
-use Rattle.image_laws.proofs.StepImages.{undo_sound, unlogged_sound}
+use Rattle.image_laws.proofs.StepImages.{undo_sound}
 use Rattle.image_laws.proofs.StepLaws.{undone_cleared}
 use Rattle.image_laws.proofs.UnderWayLaws.{cleared_stays, locals_here}
 use Rattle.local_tables.specs.Altering.{to_undo, if_any, altered}

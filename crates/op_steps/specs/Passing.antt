@@ -1,5 +1,5 @@
 -- What a call makes of the stores, from its beginning to its end: the transactions that it tried, in order, and the image before and after each of them.
-use Rattle.std.specs.Prelude.{◌≡◌, Bool, true, false, List, [], ◌∷◌, Result, Ok, Err}
+use Rattle.std.specs.Prelude.{◌≡◌, Bool, true, List, [], ◌∷◌, Result, Ok, Err}
 use Rattle.cell_world.specs.Images.{Image, Place, Happening, Committed, Wrote, Reopened, with_store, after_one}
 use Rattle.cell_world.specs.Stores.{changed}
 use Rattle.cell_world.specs.Outside.{Outside, Told, IfContents, IsLater, told_after}

@@ -1,7 +1,5 @@
 use Rattle.std.proofs.Common.{ap, subst}
 use Rattle.std.specs.Prelude.{Err}
-use Rattle.cell_world.specs.declared.operations.Op.{Op}
-use Rattle.cell_world.specs.declared.cells.Counters.{Counters}
 use Rattle.op_steps.specs.Beginning.{IsOfStore}
 use Rattle.op_steps.proofs.BeginLaws.{logs_found, logs_not, store_before}
 use Rattle.op_steps.proofs.Rises.{rose_after, rose_global}

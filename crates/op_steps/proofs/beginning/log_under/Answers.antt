@@ -1,10 +1,9 @@
-use Rattle.std.proofs.Common.{sym, subst, ap, Option, refl}
+use Rattle.std.proofs.Common.{sym, subst, ap, refl}
 use Rattle.std.specs.Prelude.{Err, IsTrue}
 use Rattle.cell_world.specs.Images.{Global}
 use Rattle.cell_world.specs.Spelled.{is_spelled}
 use Rattle.cell_world.specs.declared.cells.Cell.TheVariants as cell
 use Rattle.cell_world.specs.declared.operations.Op.{Op}
-use Rattle.global_tables.specs.declared.faults.StepFault.TheVariants as fault
 use Rattle.op_steps.specs.Beginning.{IsOfStore}
 use Rattle.op_steps.proofs.BeginLaws.{logs_none, logs_made, logs_failed, asked_of, store_at}
 use Rattle.op_steps.proofs.beginning.log_under.Goals as goal
