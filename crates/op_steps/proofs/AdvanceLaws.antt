@@ -24,9 +24,8 @@ use Rattle.image_laws.proofs.NoMarks.{none_elsewhere}
 use Rattle.image_laws.proofs.Places.{site_attached}
 use Rattle.op_log.proofs.TwoSites.{two_sites}
 use Rattle.op_steps.specs.Passing.{Passes}
-use Rattle.op_steps.specs.Advancing.{StepsAt, CommitsOp, SettlesAt, sites_with, IsCommitted, AdvanceStep, Stepping, Committing, Settling, Advances}
+use Rattle.op_steps.specs.Advancing.{sites_with, IsCommitted, Advances}
 use Rattle.op_steps.proofs.CommitLaws.{CommitsOne}
-use Rattle.op_steps.proofs.Courses.{course_weaker}
 use Rattle.op_steps.proofs.MarkLaws.{MarksBeside}
 use Rattle.op_steps.proofs.Passes.{passes_none, passes_weaker}
 use Rattle.op_steps.proofs.SettleLaws.{SettlesAll, StaysClean, course_clean, attached_before}
@@ -42,7 +41,7 @@ with_none (Some p) = refl
 pub source_on : (op : Op) (ok : Type 0) (a b : Outside) → Passes (MarksBeside op op.olds.one None ok) a b → Passes (Advances op Logged ok) a b
 source_on op ok a b p = passes_weaker (MarksBeside op op.olds.one None ok) (Advances op Logged ok) a b
     (λ image hs f sound w. let r = f sound w (own_one image op sound w.logged) in record {
-      course = course_weaker (StepsAt op) (AdvanceStep op) (λ i p c s. Stepping s) image hs r.course;
+      course = r.course;
       few = r.few;
       reached = λ k. subst (IsUnderWay (after_all image hs) op) (with_none op.olds.one) (r.done k);
       committed = λ e k. cc;
@@ -51,7 +50,7 @@ source_on op ok a b p = passes_weaker (MarksBeside op op.olds.one None ok) (Adva
 pub target_on : (op : Op) (ok : Type 0) (a b : Outside) → Passes (MarksBeside op op.news.one op.olds.one ok) a b → Passes (Advances op SourceDone ok) a b
 target_on op ok a b p = passes_weaker (MarksBeside op op.news.one op.olds.one ok) (Advances op SourceDone ok) a b
     (λ image hs f sound w. let r = f sound w (new_one image op sound w.logged) in record {
-      course = course_weaker (StepsAt op) (AdvanceStep op) (λ i p c s. Stepping s) image hs r.course;
+      course = r.course;
       few = r.few;
       reached = r.done;
       committed = λ e k. cc;
@@ -71,7 +70,7 @@ is_committed image op sound logged = record {
 pub commit_on : (op : Op) (ok : Type 0) (a b : Outside) → Passes (CommitsOne op ok) a b → Passes (Advances op TargetDone ok) a b
 commit_on op ok a b p = passes_weaker (CommitsOne op ok) (Advances op TargetDone ok) a b
     (λ image hs f sound w. let r = f sound w in record {
-      course = course_weaker (CommitsOp op) (AdvanceStep op) (λ i p c s. Committing s) image hs r.course;
+      course = r.course;
       few = r.few;
       reached = λ k. subst (IsCommitted op) (sym (r.committed k)) (is_committed image op sound w.logged);
       committed = λ e k. r.committed k;
@@ -95,7 +94,7 @@ settle_on op ok a b p = passes_weaker (SettlesAll op ok) (Advances op Committed 
     let s = course_clean op image hs sound r.course in
     let now = stays_committed op image (after_all image hs) c s in
     record {
-      course = course_weaker (SettlesAt op) (AdvanceStep op) (λ i p c t. Settling t) image hs r.course;
+      course = r.course;
       few = r.few;
       reached = λ k. (now, (now.out, all_from (λ l. IsAttachedIn (after_all image hs) l → HasNoMark op (locals_at (after_all image hs) l)) (sites_of op) (λ l h at. r.clean k l h (attached_before op image (after_all image hs) s l at))));
       committed = λ e k. cc;

@@ -16,9 +16,9 @@ use Rattle.image_laws.proofs.LocalImages.{local_meaning}
 use Rattle.image_laws.proofs.StepImages.{step_sound, settle_sound, source_done}
 use Rattle.image_laws.proofs.UnderWayLaws.{together}
 use Rattle.op_steps.specs.Passing.{IsCourse, AtEach, changed_at}
-use Rattle.op_steps.specs.Advancing.{AtStage, AdvanceStep, Stepping, Committing, Settling}
+use Rattle.op_steps.specs.Advancing.{AtStage, StepFrom, AdvanceStep, Stepping, Committing, Settling}
 use Rattle.op_steps.proofs.CommitLaws.{all_marked, at_one}
-use Rattle.op_steps.proofs.Courses.{course_each}
+use Rattle.op_steps.proofs.Courses.{course_each, course_weaker}
 
 pub advance_step_sound : (op : Op) (image : Image) (place : Place) (change : List Edit) → Sound image → AdvanceStep op image place change → Sound (changed_at image place change)
 advance_step_sound op image place change sound (Stepping s) = subst Sound (sym s.is) (step_sound image sound op s.logged s.location s.site.here s.unborn s.last s.stepped)
@@ -44,3 +44,14 @@ stage_marked op SourceDone image sound w =
 stage_marked op TargetDone image sound w = all_marked image op sound w
 stage_marked op Committed image sound c = c.out
 stage_marked op Settled image sound c = c.1
+
+-- what leads on from a stage is a transaction of an operation that goes on
+pub step_from : (op : Op) (name : StageName) (image : Image) (place : Place) (change : List Edit) → StepFrom name op image place change → AdvanceStep op image place change
+step_from op Logged image place change s = Stepping s
+step_from op SourceDone image place change s = Stepping s
+step_from op TargetDone image place change s = Committing s
+step_from op Committed image place change s = Settling s
+step_from op Settled image place change s = absurd s
+
+pub course_from : (op : Op) (name : StageName) (image : Image) (hs : List Happening) → IsCourse (StepFrom name op) image hs → IsCourse (AdvanceStep op) image hs
+course_from op name image hs c = course_weaker (StepFrom name op) (AdvanceStep op) (step_from op name) image hs c

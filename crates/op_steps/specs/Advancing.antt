@@ -165,10 +165,19 @@ pub data AdvanceStep (op : Op) (image : Image) (place : Place) (change : List Ed
   Committing : CommitsOp op image place change → AdvanceStep op image place change
   Settling : SettlesAt op image place change → AdvanceStep op image place change
 
+-- those that lead on from a stage: the local step, the local step, the commit, the settling, none
+abbrev pub StepFrom : StageName → Op → Image → Place → List Edit → Type 0
+StepFrom Logged op = StepsAt op
+StepFrom SourceDone op = StepsAt op
+StepFrom TargetDone op = CommitsOp op
+StepFrom Committed op = SettlesAt op
+StepFrom Settled op = λ image place change. ⊥
+
 -- An operation went on from a stage.
 pub record HasAdvanced (op : Op) (name : StageName) (ok : Type 0) (image : Image) (hs : List Happening) : Type 0 where
-  -- transactions of it were tried, and no more than so many
-  pub course : IsCourse (AdvanceStep op) image hs
+  -- nothing was tried but transactions that lead on from there
+  pub course : IsCourse (StepFrom name op) image hs
+  -- and no more than so many
   pub few : length hs ≤ most_tries name
   -- where all went well it has come to the next stage
   pub reached : ok → AtStage op (next_stage name) (after_all image hs)

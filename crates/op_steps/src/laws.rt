@@ -9,7 +9,7 @@ ghost use Rattle.cell_world.specs.declared.operations.StageName.{StageName};
 ghost use Rattle.cell_world.specs.declared.operations.Reach.{Reach};
 ghost use Rattle.cell_world.specs.declared.changes.Edit.{Edit};
 ghost use Rattle.op_log.specs.ShortChanges.{ShortChange};
-ghost use Rattle.op_steps.specs.Advancing.{AdvanceStep, AtStage};
+ghost use Rattle.op_steps.specs.Advancing.{AdvanceStep, AtStage, StepFrom};
 ghost use Rattle.op_steps.specs.Beginning.{BeginStep, ClearsAndTries, Logs};
 ghost use Rattle.op_steps.specs.Passing.{AtEach, IsCourse, changed_at};
 ghost use Rattle.op_steps.specs.Undoing.{AnyUndoStep, UndoStep};
@@ -27,8 +27,9 @@ pub fn beginning_keeps_sound_and_meaning()
     ensures each { (live : List ℕ) (op : Op) (image : Image) → Sound image → (hs : List Happening) → IsCourse (BeginStep live op) image hs → AtEach (λ now. Sound now × (meaning now ≡ meaning image)) image hs }
 {}
 
-/// While an operation goes on, wherever that stops, each image is sound. What the stores stand for stays but at the commit, which puts the new mappings in place of the old ones and puts the job.
+/// While an operation goes on, wherever that stops, each image is sound; what leads on from a stage is such a course. What the stores stand for stays but at the commit, which puts the new mappings in place of the old ones and puts the job.
 pub fn advancing_keeps_sound()
+    ensures course { (op : Op) (name : StageName) (image : Image) (hs : List Happening) → IsCourse (StepFrom name op) image hs → IsCourse (AdvanceStep op) image hs }
     ensures sound { (op : Op) (image : Image) → Sound image → (hs : List Happening) → IsCourse (AdvanceStep op) image hs → AtEach Sound image hs }
     ensures meaning { (op : Op) (image : Image) → Sound image → (place : Place) (change : List Edit) → AdvanceStep op image place change →
         (meaning (changed_at image place change) ≡ meaning image) ⊎ (meaning (changed_at image place change) ≡ record (meaning image) { mappings = (committed (global image) op).mappings; jobs = (committed (global image) op).jobs }) }
