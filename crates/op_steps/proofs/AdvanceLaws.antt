@@ -38,22 +38,24 @@ with_none : (piece : Option Piece) → sites_with piece None ≡ locations_of (o
 with_none None = refl
 with_none (Some p) = refl
 
-pub source_on : (op : Op) (ok : Type 0) (a b : Outside) → Passes (MarksBeside op op.olds.one None ok) a b → Passes (Advances op Logged ok) a b
-source_on op ok a b p = passes_weaker (MarksBeside op op.olds.one None ok) (Advances op Logged ok) a b
+pub source_on : (op : Op) (ok memory : Type 0) (a b : Outside) → Passes (MarksBeside op op.olds.one None ok) a b → Passes (Advances op Logged ok memory) a b
+source_on op ok memory a b p = passes_weaker (MarksBeside op op.olds.one None ok) (Advances op Logged ok memory) a b
     (λ image hs f sound w. let r = f sound w (own_one image op sound w.logged) in record {
       course = r.course;
       few = r.few;
       reached = λ k. subst (IsUnderWay (after_all image hs) op) (with_none op.olds.one) (r.done k);
       committed = λ e k. cc;
+      untried = λ e k. cc;
     }) p
 
-pub target_on : (op : Op) (ok : Type 0) (a b : Outside) → Passes (MarksBeside op op.news.one op.olds.one ok) a b → Passes (Advances op SourceDone ok) a b
-target_on op ok a b p = passes_weaker (MarksBeside op op.news.one op.olds.one ok) (Advances op SourceDone ok) a b
+pub target_on : (op : Op) (ok memory : Type 0) (a b : Outside) → Passes (MarksBeside op op.news.one op.olds.one ok) a b → Passes (Advances op SourceDone ok memory) a b
+target_on op ok memory a b p = passes_weaker (MarksBeside op op.news.one op.olds.one ok) (Advances op SourceDone ok memory) a b
     (λ image hs f sound w. let r = f sound w (new_one image op sound w.logged) in record {
       course = r.course;
       few = r.few;
       reached = r.done;
       committed = λ e k. cc;
+      untried = λ e k. cc;
     }) p
 
 -- ---- the commit
@@ -67,13 +69,14 @@ is_committed image op sound logged = record {
   known = λ l h. (site_attached image op (sound.logged.lawful op logged) l h).known;
 }
 
-pub commit_on : (op : Op) (ok : Type 0) (a b : Outside) → Passes (CommitsOne op ok) a b → Passes (Advances op TargetDone ok) a b
-commit_on op ok a b p = passes_weaker (CommitsOne op ok) (Advances op TargetDone ok) a b
+pub commit_on : (op : Op) (ok memory : Type 0) (a b : Outside) → Passes (CommitsOne op ok memory) a b → Passes (Advances op TargetDone ok memory) a b
+commit_on op ok memory a b p = passes_weaker (CommitsOne op ok memory) (Advances op TargetDone ok memory) a b
     (λ image hs f sound w. let r = f sound w in record {
       course = r.course;
       few = r.few;
       reached = λ k. subst (IsCommitted op) (sym (r.committed k)) (is_committed image op sound w.logged);
       committed = λ e k. r.committed k;
+      untried = λ e. r.untried;
     }) p
 
 -- ---- settling
@@ -87,8 +90,8 @@ stays_committed op image now c s = record {
   known = λ l h. subst (λ ls. IsTrue (is_among ls l)) (sym s.locations) (c.known l h);
 }
 
-pub settle_on : (op : Op) (ok : Type 0) (a b : Outside) → Passes (SettlesAll op ok) a b → Passes (Advances op Committed ok) a b
-settle_on op ok a b p = passes_weaker (SettlesAll op ok) (Advances op Committed ok) a b
+pub settle_on : (op : Op) (ok memory : Type 0) (a b : Outside) → Passes (SettlesAll op ok) a b → Passes (Advances op Committed ok memory) a b
+settle_on op ok memory a b p = passes_weaker (SettlesAll op ok) (Advances op Committed ok memory) a b
     (λ image hs f sound c.
     let r = f sound c.sites c.known c.out.0 in
     let s = course_clean op image hs sound r.course in
@@ -98,12 +101,13 @@ settle_on op ok a b p = passes_weaker (SettlesAll op ok) (Advances op Committed 
       few = r.few;
       reached = λ k. (now, (now.out, all_from (λ l. IsAttachedIn (after_all image hs) l → HasNoMark op (locals_at (after_all image hs) l)) (sites_of op) (λ l h at. r.clean k l h (attached_before op image (after_all image hs) s l at))));
       committed = λ e k. cc;
+      untried = λ e k. cc;
     }) p
 
-pub stay_settled : (op : Op) (a : Outside) → Passes (Advances op Settled (true ≡ true)) a a
-stay_settled op a = passes_none (Advances op Settled (true ≡ true)) a a refl (later_same a)
-    (contents_all a.told (λ image. Advances op Settled (true ≡ true) image []) (λ image sound c. record { course = tt; few = omega arith; reached = λ k. c; committed = λ e k. cc }))
+pub stay_settled : (op : Op) (a : Outside) → Passes (Advances op Settled (true ≡ true) ⊥) a a
+stay_settled op a = passes_none (Advances op Settled (true ≡ true) ⊥) a a refl (later_same a)
+    (contents_all a.told (λ image. Advances op Settled (true ≡ true) ⊥ image []) (λ image sound c. record { course = tt; few = omega arith; reached = λ k. c; committed = λ e k. cc; untried = λ e k. cc }))
 
 -- at the stage that it is
-pub at_stage : (op : Op) (name is : StageName) (ok : Type 0) (a b : Outside) → name ≡ is → Passes (Advances op is ok) a b → Passes (Advances op name ok) a b
-at_stage op name is ok a b e p = subst (λ s. Passes (Advances op s ok) a b) (sym e) p
+pub at_stage : (op : Op) (name is : StageName) (ok memory : Type 0) (a b : Outside) → name ≡ is → Passes (Advances op is ok memory) a b → Passes (Advances op name ok memory) a b
+at_stage op name is ok memory a b e p = subst (λ s. Passes (Advances op s ok memory) a b) (sym e) p

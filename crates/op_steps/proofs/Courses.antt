@@ -5,7 +5,7 @@ use Rattle.cell_world.specs.Images.{Image, Place, Happening, Committed, Wrote, R
 use Rattle.cell_world.specs.declared.changes.Edit.{Edit}
 use Rattle.global_tables.specs.declared.faults.StepFault.{StepFault}
 use Rattle.global_tables.specs.declared.faults.StepFault.TheVariants as fault
-use Rattle.op_steps.specs.Passing.{Tries, IsCourse, AtEach, IsTryOf, changed_at}
+use Rattle.op_steps.specs.Passing.{Tries, IsCourse, AtEach, IsTryOf, FailsByMemory, changed_at}
 
 pub after_then : (image : Image) (hs gs : List Happening) → after_all (after_all image hs) gs ≡ after_all image (hs ++ gs)
 after_then image [] gs = refl
@@ -48,13 +48,15 @@ course_weaker Step Other weaker image (h ∷ hs) c = (by h c.0, course_weaker St
 
 -- ---- one step
 
--- A step was tried at most once; where all went well it is made.
-pub record TriedOnce (Step : Image → Place → List Edit → Type 0) (ok : Type 0) (image : Image) (place : Place) (change : List Edit) (hs : List Happening) : Type 0 where
+-- A step was tried at most once; where all went well it is made, and for want of memory it wasn't tried.
+pub record TriedOnce (Step : Image → Place → List Edit → Type 0) (ok memory : Type 0) (image : Image) (place : Place) (change : List Edit) (hs : List Happening) : Type 0 where
   pub course : IsCourse Step image hs
   pub few : length hs ≤ 1
   pub made : ok → after_all image hs ≡ changed_at image place change
+  pub untried : memory → hs ≡ []
 
-pub tried_once : (Step : Image → Place → List Edit → Type 0) (image : Image) (place : Place) (change : List Edit) → Step image place change → (result : Result (Unit {0}) StepFault) (hs : List Happening) → IsTryOf place change result hs → TriedOnce Step (IsOk result) image place change hs
-tried_once Step image place change s (Ok done) hs h = subst (TriedOnce Step (true ≡ true) image place change) (sym h) (record { course = (s, tt); few = omega arith; made = λ k. refl })
-tried_once Step image place change s (Err fault.Store) hs h = subst (TriedOnce Step (false ≡ true) image place change) (sym h.1) (record { course = (s, tt); few = omega arith; made = λ k. cc })
-tried_once Step image place change s (Err fault.Memory) hs h = subst (TriedOnce Step (false ≡ true) image place change) (sym h) (record { course = tt; few = omega arith; made = λ k. cc })
+pub tried_once : (Step : Image → Place → List Edit → Type 0) (image : Image) (place : Place) (change : List Edit) → Step image place change → (result : Result (Unit {0}) StepFault) (hs : List Happening) → IsTryOf place change result hs
+    → TriedOnce Step (IsOk result) (FailsByMemory result) image place change hs
+tried_once Step image place change s (Ok done) hs h = subst (TriedOnce Step (true ≡ true) ⊥ image place change) (sym h) (record { course = (s, tt); few = omega arith; made = λ k. refl; untried = λ k. absurd k })
+tried_once Step image place change s (Err fault.Store) hs h = subst (TriedOnce Step (false ≡ true) ⊥ image place change) (sym h.1) (record { course = (s, tt); few = omega arith; made = λ k. cc; untried = λ k. absurd k })
+tried_once Step image place change s (Err fault.Memory) hs h = subst (TriedOnce Step (false ≡ true) (Unit {0}) image place change) (sym h) (record { course = tt; few = omega arith; made = λ k. cc; untried = λ k. refl })

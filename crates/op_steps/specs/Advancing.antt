@@ -92,14 +92,16 @@ pub record Marks (op : Op) (sites : List Text) (ok : Type 0) (image : Image) (hs
 
 -- ---- the commit
 
--- The commit was tried, or nothing; `ok` says that the call succeeded.
-pub record Commits (op : Op) (ok : Type 0) (image : Image) (hs : List Happening) : Type 0 where
+-- The commit was tried, or nothing; `ok` says that the call succeeded, and `memory` that it failed for want of memory.
+pub record Commits (op : Op) (ok memory : Type 0) (image : Image) (hs : List Happening) : Type 0 where
   -- nothing was tried but the commit
   pub course : IsCourse (CommitsOp op) image hs
   -- and at most once
   pub few : length hs ≤ 1
   -- where all went well it is made
   pub committed : ok → after_all image hs ≡ committed_image image op
+  -- for want of memory it wasn't tried
+  pub untried : memory → hs ≡ []
 
 -- ---- settling
 
@@ -173,8 +175,8 @@ StepFrom TargetDone op = CommitsOp op
 StepFrom Committed op = SettlesAt op
 StepFrom Settled op = λ image place change. ⊥
 
--- An operation went on from a stage.
-pub record HasAdvanced (op : Op) (name : StageName) (ok : Type 0) (image : Image) (hs : List Happening) : Type 0 where
+-- An operation went on from a stage; `ok` says that the call succeeded, and `memory` that it failed for want of memory.
+pub record HasAdvanced (op : Op) (name : StageName) (ok memory : Type 0) (image : Image) (hs : List Happening) : Type 0 where
   -- nothing was tried but transactions that lead on from there
   pub course : IsCourse (StepFrom name op) image hs
   -- and no more than so many
@@ -183,6 +185,8 @@ pub record HasAdvanced (op : Op) (name : StageName) (ok : Type 0) (image : Image
   pub reached : ok → AtStage op (next_stage name) (after_all image hs)
   -- and from TargetDone on its commit is made, and nothing else
   pub committed : name ≡ TargetDone → ok → after_all image hs ≡ committed_image image op
+  -- for want of memory the commit wasn't tried
+  pub untried : name ≡ TargetDone → memory → hs ≡ []
 
-abbrev pub Advances : Op → StageName → Type 0 → Image → List Happening → Type 0
-Advances op name ok image hs = Sound image → AtStage op name image → HasAdvanced op name ok image hs
+abbrev pub Advances : Op → StageName → Type 0 → Type 0 → Image → List Happening → Type 0
+Advances op name ok memory image hs = Sound image → AtStage op name image → HasAdvanced op name ok memory image hs

@@ -55,6 +55,12 @@ IsTryOf place change (Ok done) hs = hs ≡ Committed place change true ∷ []
 IsTryOf place change (Err fault.Store) hs = (took : Bool) × (hs ≡ Committed place change took ∷ [])
 IsTryOf place change (Err fault.Memory) hs = hs ≡ []
 
+-- the call failed for want of memory
+abbrev pub FailsByMemory : {T : Type 0} → Result T StepFault → Type 0
+FailsByMemory (Ok value) = ⊥
+FailsByMemory (Err fault.Store) = ⊥
+FailsByMemory (Err fault.Memory) = Unit {0}
+
 -- The change was tried at the place.
 abbrev pub TriesAt : Place → List Edit → Result (Unit {0}) StepFault → Outside → Outside → Type 0
 TriesAt place change result old new = Passes (λ image hs. IsTryOf place change result hs) old new
