@@ -1,16 +1,13 @@
 -- An operation goes on from each stage to the next.
-use Rattle.std.proofs.Common.{◌≡◌, ◌≤◌, ◌<◌, true, false, refl, sym, ap, ◌∙◌, subst, Some, None, Option, List, [], ◌∷◌, ◌++◌, arith}
+use Rattle.std.proofs.Common.{◌≡◌, ◌<◌, true, refl, sym, subst, Some, None, Option, [], arith}
 use Rattle.std.specs.Prelude.{IsTrue, option_to_list}
 use Rattle.std.specs.FinMap as map
 use Rattle.std.proofs.lemmas.Cmp.{nat_cmp_total}
-use Rattle.cell_world.specs.Texts.{Text}
 use Rattle.cell_world.specs.Keys.{is_among}
-use Rattle.cell_world.specs.Lists.{IsOneOf}
 use Rattle.cell_world.specs.Stores.{Store}
-use Rattle.cell_world.specs.Images.{Image, Happening, global, after_all}
+use Rattle.cell_world.specs.Images.{Image, global, after_all}
 use Rattle.cell_world.specs.Meaning.{counters_of}
-use Rattle.cell_world.specs.Lawful.{Lawful}
-use Rattle.cell_world.specs.Marked.{Marked, MarkedOn, HasNoMark, IsOutOfLog, mark_tables, NoMarksElsewhere, committed_image}
+use Rattle.cell_world.specs.Marked.{HasNoMark, committed_image}
 use Rattle.cell_world.specs.Operations.{locations_of, sites_of}
 use Rattle.cell_world.specs.Outside.{Outside}
 use Rattle.cell_world.specs.Sound.{Sound, HasLog, IsAttachedIn, locals_at}
@@ -24,17 +21,15 @@ use Rattle.cell_world.proofs.ListLaws.{all_from}
 use Rattle.cell_world.proofs.OutsideLaws.{later_same}
 use Rattle.cell_world.proofs.StoreLaws.{get-remove_same}
 use Rattle.image_laws.proofs.NoMarks.{none_elsewhere}
-use Rattle.image_laws.proofs.Places.{old_site, new_site, site_attached}
+use Rattle.image_laws.proofs.Places.{site_attached}
 use Rattle.op_log.proofs.TwoSites.{two_sites}
-use Rattle.op_steps.specs.Passing.{Passes, IsCourse}
-use Rattle.op_steps.specs.Undoing.{IsAttachedAt}
-use Rattle.op_steps.specs.Advancing.{StepsAt, CommitsOp, SettlesAt, Marks, Commits, SettlesBoth, sites_with, IsCommitted, AtStage, AdvanceStep, Stepping, Committing, Settling, HasAdvanced, Advances}
+use Rattle.op_steps.specs.Passing.{Passes}
+use Rattle.op_steps.specs.Advancing.{sites_with, IsCommitted, Advances}
 use Rattle.op_steps.proofs.CommitLaws.{CommitsOne}
-use Rattle.op_steps.proofs.Courses.{course_weaker}
 use Rattle.op_steps.proofs.MarkLaws.{MarksBeside}
 use Rattle.op_steps.proofs.Passes.{passes_none, passes_weaker}
 use Rattle.op_steps.proofs.SettleLaws.{SettlesAll, StaysClean, course_clean, attached_before}
-use Rattle.op_steps.proofs.UndoLaws.{one_listed}
+use Rattle.op_steps.proofs.UndoLaws.{own_one, new_one}
 
 -- ---- local steps
 
@@ -43,29 +38,24 @@ with_none : (piece : Option Piece) → sites_with piece None ≡ locations_of (o
 with_none None = refl
 with_none (Some p) = refl
 
--- the sites of the first old and of the first new mapping are attached
-olds_attached : (image : Image) (op : Op) → Sound image → HasLog (global image).log op → IsAttachedAt op.olds.one image
-olds_attached image op sound logged p e = site_attached image op (sound.logged.lawful op logged) p.location (old_site op p (one_listed op.olds.one op.olds.two p e))
-
-news_attached : (image : Image) (op : Op) → Sound image → HasLog (global image).log op → IsAttachedAt op.news.one image
-news_attached image op sound logged p e = site_attached image op (sound.logged.lawful op logged) p.location (new_site op p (one_listed op.news.one op.news.two p e))
-
-pub source_on : (op : Op) (ok : Type 0) (a b : Outside) → Passes (MarksBeside op op.olds.one None ok) a b → Passes (Advances op Logged ok) a b
-source_on op ok a b p = passes_weaker (MarksBeside op op.olds.one None ok) (Advances op Logged ok) a b
-    (λ image hs f sound w. let r = f sound w (olds_attached image op sound w.logged) in record {
-      course = course_weaker (StepsAt op) (AdvanceStep op) (λ i x s. Stepping s) image hs r.course;
+pub source_on : (op : Op) (ok memory : Type 0) (a b : Outside) → Passes (MarksBeside op op.olds.one None ok) a b → Passes (Advances op Logged ok memory) a b
+source_on op ok memory a b p = passes_weaker (MarksBeside op op.olds.one None ok) (Advances op Logged ok memory) a b
+    (λ image hs f sound w. let r = f sound w (own_one image op sound w.logged) in record {
+      course = r.course;
       few = r.few;
       reached = λ k. subst (IsUnderWay (after_all image hs) op) (with_none op.olds.one) (r.done k);
       committed = λ e k. cc;
+      untried = λ e k. cc;
     }) p
 
-pub target_on : (op : Op) (ok : Type 0) (a b : Outside) → Passes (MarksBeside op op.news.one op.olds.one ok) a b → Passes (Advances op SourceDone ok) a b
-target_on op ok a b p = passes_weaker (MarksBeside op op.news.one op.olds.one ok) (Advances op SourceDone ok) a b
-    (λ image hs f sound w. let r = f sound w (news_attached image op sound w.logged) in record {
-      course = course_weaker (StepsAt op) (AdvanceStep op) (λ i x s. Stepping s) image hs r.course;
+pub target_on : (op : Op) (ok memory : Type 0) (a b : Outside) → Passes (MarksBeside op op.news.one op.olds.one ok) a b → Passes (Advances op SourceDone ok memory) a b
+target_on op ok memory a b p = passes_weaker (MarksBeside op op.news.one op.olds.one ok) (Advances op SourceDone ok memory) a b
+    (λ image hs f sound w. let r = f sound w (new_one image op sound w.logged) in record {
+      course = r.course;
       few = r.few;
       reached = r.done;
       committed = λ e k. cc;
+      untried = λ e k. cc;
     }) p
 
 -- ---- the commit
@@ -79,13 +69,14 @@ is_committed image op sound logged = record {
   known = λ l h. (site_attached image op (sound.logged.lawful op logged) l h).known;
 }
 
-pub commit_on : (op : Op) (ok : Type 0) (a b : Outside) → Passes (CommitsOne op ok) a b → Passes (Advances op TargetDone ok) a b
-commit_on op ok a b p = passes_weaker (CommitsOne op ok) (Advances op TargetDone ok) a b
+pub commit_on : (op : Op) (ok memory : Type 0) (a b : Outside) → Passes (CommitsOne op ok memory) a b → Passes (Advances op TargetDone ok memory) a b
+commit_on op ok memory a b p = passes_weaker (CommitsOne op ok memory) (Advances op TargetDone ok memory) a b
     (λ image hs f sound w. let r = f sound w in record {
-      course = course_weaker (CommitsOp op) (AdvanceStep op) (λ i x s. Committing s) image hs r.course;
+      course = r.course;
       few = r.few;
       reached = λ k. subst (IsCommitted op) (sym (r.committed k)) (is_committed image op sound w.logged);
       committed = λ e k. r.committed k;
+      untried = λ e. r.untried;
     }) p
 
 -- ---- settling
@@ -99,23 +90,24 @@ stays_committed op image now c s = record {
   known = λ l h. subst (λ ls. IsTrue (is_among ls l)) (sym s.locations) (c.known l h);
 }
 
-pub settle_on : (op : Op) (ok : Type 0) (a b : Outside) → Passes (SettlesAll op ok) a b → Passes (Advances op Committed ok) a b
-settle_on op ok a b p = passes_weaker (SettlesAll op ok) (Advances op Committed ok) a b
+pub settle_on : (op : Op) (ok memory : Type 0) (a b : Outside) → Passes (SettlesAll op ok) a b → Passes (Advances op Committed ok memory) a b
+settle_on op ok memory a b p = passes_weaker (SettlesAll op ok) (Advances op Committed ok memory) a b
     (λ image hs f sound c.
     let r = f sound c.sites c.known c.out.0 in
     let s = course_clean op image hs sound r.course in
     let now = stays_committed op image (after_all image hs) c s in
     record {
-      course = course_weaker (SettlesAt op) (AdvanceStep op) (λ i x t. Settling t) image hs r.course;
+      course = r.course;
       few = r.few;
       reached = λ k. (now, (now.out, all_from (λ l. IsAttachedIn (after_all image hs) l → HasNoMark op (locals_at (after_all image hs) l)) (sites_of op) (λ l h at. r.clean k l h (attached_before op image (after_all image hs) s l at))));
       committed = λ e k. cc;
+      untried = λ e k. cc;
     }) p
 
-pub stay_settled : (op : Op) (a : Outside) → Passes (Advances op Settled (true ≡ true)) a a
-stay_settled op a = passes_none (Advances op Settled (true ≡ true)) a a refl (later_same a)
-    (contents_all a.told (λ image. Advances op Settled (true ≡ true) image []) (λ image sound c. record { course = tt; few = omega arith; reached = λ k. c; committed = λ e k. cc }))
+pub stay_settled : (op : Op) (a : Outside) → Passes (Advances op Settled (true ≡ true) ⊥) a a
+stay_settled op a = passes_none (Advances op Settled (true ≡ true) ⊥) a a refl (later_same a)
+    (contents_all a.told (λ image. Advances op Settled (true ≡ true) ⊥ image []) (λ image sound c. record { course = tt; few = omega arith; reached = λ k. c; committed = λ e k. cc; untried = λ e k. cc }))
 
 -- at the stage that it is
-pub at_stage : (op : Op) (name is : StageName) (ok : Type 0) (a b : Outside) → name ≡ is → Passes (Advances op is ok) a b → Passes (Advances op name ok) a b
-at_stage op name is ok a b e p = subst (λ s. Passes (Advances op s ok) a b) (sym e) p
+pub at_stage : (op : Op) (name is : StageName) (ok memory : Type 0) (a b : Outside) → name ≡ is → Passes (Advances op is ok memory) a b → Passes (Advances op name ok memory) a b
+at_stage op name is ok memory a b e p = subst (λ s. Passes (Advances op s ok memory) a b) (sym e) p

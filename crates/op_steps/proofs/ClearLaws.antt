@@ -1,16 +1,15 @@
 -- The way of a command is cleared.
-use Rattle.std.proofs.Common.{◌≡◌, ◌≢◌, ◌⊎◌, ◌<◌, ◌≤◌, ◌+◌, ℕ, suc, Bool, true, false, ◌&&◌, cond, refl, sym, ap, ◌∙◌, subst, Some, None, Option, inl, inr, true≢false, List, [], ◌∷◌, ◌++◌, length, take, drop, arith}
-use Rattle.std.specs.Prelude.{filter, Result, Ok, Err, IsOk, IfSome}
+use Rattle.std.proofs.Common.{◌≡◌, ◌≢◌, ◌<◌, ◌≤◌, ◌+◌, ℕ, suc, Bool, true, false, ◌&&◌, refl, sym, ap, ◌∙◌, subst, Some, None, inl, inr, true≢false, List, [], ◌∷◌, ◌++◌, length, take, drop, arith}
+use Rattle.std.specs.Prelude.{filter, Ok, Err, IfSome}
 use Rattle.std.specs.FinMap as map
 use Rattle.std.specs.Ordering.{nat_cmp}
 use Rattle.std.specs.declared.cmp.Ordering.TheVariants.{Less}
 use Rattle.std.proofs.Math.ListN.{get_or}
 use Rattle.std.proofs.Math.Seq.{drop-cons}
-use Rattle.std.proofs.lemmas.Bool.{cases_lt, cases_Bool, and_parts, and_from}
+use Rattle.std.proofs.lemmas.Bool.{cases_lt, cases_Bool}
 use Rattle.std.proofs.lemmas.List.{take_more, take-append-drop}
 use Rattle.std.proofs.lemmas.Option.{none-some}
 use Rattle.cell_world.specs.Lists.{IsOneOf}
-use Rattle.cell_world.specs.Stores.{Log}
 use Rattle.cell_world.specs.Images.{Image, Happening, Global, global, after_all}
 use Rattle.cell_world.specs.Operations.{conflicts}
 use Rattle.cell_world.specs.Outside.{Outside, IfContents, IsLater}
@@ -19,14 +18,14 @@ use Rattle.cell_world.specs.declared.operations.Op.{Op}
 use Rattle.cell_world.specs.declared.operations.Reach.{Reach}
 use Rattle.cell_world.proofs.ContentsLaws.{contents_all, contents_weaker}
 use Rattle.cell_world.proofs.OutsideLaws.{later_same}
-use Rattle.cell_world.proofs.ListLaws.{one_of_two, in_first, in_second}
+use Rattle.cell_world.proofs.ListLaws.{one_of_two, in_second}
 use Rattle.global_tables.specs.declared.faults.StepFault.{StepFault}
 use Rattle.global_tables.proofs.Least.{number_least}
-use Rattle.global_tables.proofs.Rising.{Rising, rising_filter, rising_across, in_filter, from_filter}
+use Rattle.global_tables.proofs.Rising.{Rising, rising_filter, in_filter, from_filter}
 use Rattle.op_steps.specs.Live.{is_live}
 use Rattle.op_steps.specs.Passing.{Passes, IsCourse}
 use Rattle.op_steps.specs.Undoing.{UndoStepOf, AreLogged, UndoesList, without_ops}
-use Rattle.op_steps.specs.Clearing.{is_in_way, NoneInWay, IsLeastInWay, IsFirstOf, FindsFirst, IsAbandonedInWay, IsCleared, Clears}
+use Rattle.op_steps.specs.Clearing.{is_in_way, IsLeastInWay, IsFirstOf, IsAbandonedInWay, IsCleared, Clears}
 use Rattle.op_steps.proofs.Courses.{course_weaker}
 use Rattle.op_steps.proofs.Passes.{passes_none, passes_found}
 use Rattle.op_steps.proofs.RecoverLaws.{ByNumber, log_rises, op_stands, op_there, rising_differ, without_gone, without_keeps, without_from}
@@ -102,7 +101,7 @@ module _ (live : List ℕ) (reach : Reach) (image : Image) (sound : Sound image)
     listed = record { logged = λ op h. stands op (in_filter (conflicts reach) ops op h).0; once = rising_differ (filter (conflicts reach) ops) (rising_filter ByNumber (conflicts reach) ops rises) }
 
     pub conflicts_undone : (ok : Type 0) (hs : List Happening) → UndoesList (filter (conflicts reach) ops) ok image hs → IsCourse (UndoStepOf (IsAbandonedInWay live reach)) image hs
-    conflicts_undone ok hs u = course_weaker (UndoStepOf (IsOneOf (filter (conflicts reach) ops))) (UndoStepOf (IsAbandonedInWay live reach)) (λ i a h. (h.0, abandoned h.0 h.1, h.2)) image hs (u sound listed).course
+    conflicts_undone ok hs u = course_weaker (UndoStepOf (IsOneOf (filter (conflicts reach) ops))) (UndoStepOf (IsAbandonedInWay live reach)) (λ i p c h. (h.0, abandoned h.0 h.1, h.2)) image hs (u sound listed).course
 
     pub way_cleared : (hs : List Happening) → UndoesList (filter (conflicts reach) ops) (true ≡ true) image hs → IsCleared live reach image hs
     way_cleared hs u = record {

@@ -1,10 +1,10 @@
 -- The commit of an operation, on images and in its calls.
-use Rattle.std.proofs.Common.{◌≡◌, ◌≤◌, Bool, true, false, ◌||◌, refl, sym, ap, ◌∙◌, subst, Some, None, Option, is_some, inl, inr, List, [], ◌∷◌, ◌++◌, append_assoc, arith}
-use Rattle.std.specs.Prelude.{Result, Ok, Err, IsOk, option_to_list}
+use Rattle.std.proofs.Common.{◌≡◌, true, false, ◌||◌, refl, sym, ap, ◌∙◌, subst, Some, None, Option, is_some, inl, List, [], ◌∷◌, ◌++◌, append_assoc, arith}
+use Rattle.std.specs.Prelude.{Result, IsOk, option_to_list}
 use Rattle.std.specs.Option.{is_none}
 use Rattle.cell_world.specs.Stores.{changed}
 use Rattle.cell_world.specs.Lists.{IsOneOf}
-use Rattle.cell_world.specs.Images.{Image, Global, Happening, Committed, global, with_store, after_all}
+use Rattle.cell_world.specs.Images.{Image, Global, Happening, global, with_store}
 use Rattle.cell_world.specs.Lawful.{Lawful, rows_at}
 use Rattle.cell_world.specs.Marked.{Marked, committed_image}
 use Rattle.cell_world.specs.Operations.{locations_of}
@@ -25,8 +25,9 @@ use Rattle.image_laws.specs.CommitEdits.{commit_edits, deletes, puts}
 use Rattle.image_laws.proofs.CommitEdits.{changed-commit}
 use Rattle.image_laws.proofs.StepImages.{target_done}
 use Rattle.image_laws.proofs.UnderWayLaws.{AreTogether, together}
-use Rattle.op_steps.specs.Passing.{Passes, IsTryOf, TriesAt}
+use Rattle.op_steps.specs.Passing.{Passes, IsTryOf, FailsByMemory, TriesAt}
 use Rattle.op_steps.specs.Advancing.{CommitsOp, Commits, sites_with}
+use Rattle.op_steps.proofs.Courses.{tried_once}
 use Rattle.op_steps.proofs.Passes.{passes_none, passes_weaker}
 use Rattle.op_steps.proofs.UndoCalls.{err_not_ok}
 
@@ -72,27 +73,21 @@ module _ (image : Image) (op : Op) (sound : Sound image) (w : IsUnderWay image o
   made : there ≡ committed_image image op
   made = ap (with_store image Global) (changed-commit (global image) op)
 
-  commits : CommitsOp op image there
-  commits = record { logged = w.logged; marked = all_marked; is = made }
+  commits : CommitsOp op image Global (commit_edits op)
+  commits = record { logged = w.logged; marked = all_marked; place_is = refl; edits = refl; is = made }
 
-  pub commit_tried : (result : Result (Unit {0}) StepFault) (hs : List Happening) → IsTryOf Global (commit_edits op) result hs → Commits op (IsOk result) image hs
-  commit_tried (Ok done) hs h = subst (Commits op (true ≡ true) image) (sym h) (record { course = (commits, tt); few = omega arith; committed = λ k. made })
-  commit_tried (Err fault.Store) hs h = took h.0 h.1
-    where
-      took : (b : Bool) → hs ≡ Committed Global (commit_edits op) b ∷ [] → Commits op (false ≡ true) image hs
-      took true e = subst (Commits op (false ≡ true) image) (sym e) (record { course = (commits, tt); few = omega arith; committed = λ k. absurd (err_not_ok fault.Store k) })
-      took false e = subst (Commits op (false ≡ true) image) (sym e) (record { course = (tt, tt); few = omega arith; committed = λ k. absurd (err_not_ok fault.Store k) })
-  commit_tried (Err fault.Memory) hs h = subst (Commits op (false ≡ true) image) (sym h) (record { course = tt; few = omega arith; committed = λ k. absurd (err_not_ok fault.Memory k) })
+  pub commit_tried : (result : Result (Unit {0}) StepFault) (hs : List Happening) → IsTryOf Global (commit_edits op) result hs → Commits op (IsOk result) (FailsByMemory result) image hs
+  commit_tried result hs h = let r = tried_once (CommitsOp op) image Global (commit_edits op) commits result hs h in record { course = r.course; few = r.few; committed = λ k. r.made k ∙ made; untried = r.untried }
 
 -- ---- the call
 
 -- what the commit makes of a sound image on which all steps are made
-abbrev pub CommitsOne : Op → Type 0 → Image → List Happening → Type 0
-CommitsOne op ok image hs = Sound image → IsUnderWay image op (sites_with op.news.one op.olds.one) → Commits op ok image hs
+abbrev pub CommitsOne : Op → Type 0 → Type 0 → Image → List Happening → Type 0
+CommitsOne op ok memory image hs = Sound image → IsUnderWay image op (sites_with op.news.one op.olds.one) → Commits op ok memory image hs
 
-pub commits_tried : (op : Op) (edits : List Edit) (result : Result (Unit {0}) StepFault) (a b : Outside) → edits ≡ commit_edits op → TriesAt Global edits result a b → Passes (CommitsOne op (IsOk result)) a b
+pub commits_tried : (op : Op) (edits : List Edit) (result : Result (Unit {0}) StepFault) (a b : Outside) → edits ≡ commit_edits op → TriesAt Global edits result a b → Passes (CommitsOne op (IsOk result) (FailsByMemory result)) a b
 commits_tried op edits result a b is tries =
-    passes_weaker (λ image hs. IsTryOf Global edits result hs) (CommitsOne op (IsOk result)) a b (λ image hs h sound w. commit_tried image op sound w result hs (subst (λ es. IsTryOf Global es result hs) is h)) tries
+    passes_weaker (λ image hs. IsTryOf Global edits result hs) (CommitsOne op (IsOk result) (FailsByMemory result)) a b (λ image hs h sound w. commit_tried image op sound w result hs (subst (λ es. IsTryOf Global es result hs) is h)) tries
 
-pub commits_none : (op : Op) (a : Outside) → Passes (CommitsOne op (false ≡ true)) a a
-commits_none op a = passes_none (CommitsOne op (false ≡ true)) a a refl (later_same a) (contents_all a.told (λ image. CommitsOne op (false ≡ true) image []) (λ image sound w. record { course = tt; few = omega arith; committed = λ k. absurd (err_not_ok fault.Memory k) }))
+pub commits_none : (op : Op) (a : Outside) → Passes (CommitsOne op (false ≡ true) (Unit {0})) a a
+commits_none op a = passes_none (CommitsOne op (false ≡ true) (Unit {0})) a a refl (later_same a) (contents_all a.told (λ image. CommitsOne op (false ≡ true) (Unit {0}) image []) (λ image sound w. record { course = tt; few = omega arith; committed = λ k. absurd (err_not_ok fault.Memory k); untried = λ k. refl }))

@@ -6,6 +6,7 @@ pub mod CommitLaws
 pub mod Courses
 pub mod MarkLaws
 pub mod MeaningLaws
+pub mod NumberLaws
 pub mod Passes
 pub mod RecoverLaws
 pub mod Rises

@@ -1,15 +1,15 @@
 -- The local step of an operation at a site, on images and in its calls.
-use Rattle.std.proofs.Common.{◌≡◌, ◌⊎◌, ◌≤◌, Bool, true, false, refl, sym, ap, ◌∙◌, subst, Some, None, Option, inl, inr, List, [], ◌∷◌, ◌++◌, true≢false, arith}
-use Rattle.std.specs.Prelude.{Result, Ok, Err, IsOk, option_to_list}
-use Rattle.std.proofs.lemmas.Option.{same_Some, none-some}
+use Rattle.std.proofs.Common.{◌≡◌, true, false, refl, sym, ap, ◌∙◌, subst, Some, None, Option, inl, inr, List, [], ◌∷◌, true≢false, arith}
+use Rattle.std.specs.Prelude.{Result, IsOk, option_to_list}
+use Rattle.std.proofs.lemmas.Option.{none-some}
 use Rattle.cell_world.specs.Texts.{Text}
 use Rattle.cell_world.specs.Lists.{IsOneOf}
 use Rattle.cell_world.specs.Keys.{same}
 use Rattle.cell_world.specs.Stores.{Store, Locals, changed}
-use Rattle.cell_world.specs.Images.{Image, Shard, Happening, Committed, global, with_store, after_all}
+use Rattle.cell_world.specs.Images.{Image, Shard, Happening, global, with_store}
 use Rattle.cell_world.specs.Operations.{locations_of}
 use Rattle.cell_world.specs.Outside.{Outside, IfContents, IsLater, site_number}
-use Rattle.cell_world.specs.Sound.{Sound, HasLog, IsAttachedIn, locals_at}
+use Rattle.cell_world.specs.Sound.{Sound, HasLog, locals_at}
 use Rattle.cell_world.specs.UnderWay.{IsDone, IsUnderWay}
 use Rattle.cell_world.specs.declared.cells.Site.{Site}
 use Rattle.cell_world.specs.declared.operations.Op.{Op}
@@ -19,17 +19,19 @@ use Rattle.cell_world.proofs.ContentsLaws.{contents_all, contents_weaker}
 use Rattle.cell_world.proofs.OutsideLaws.{later_same}
 use Rattle.cell_world.proofs.SpanLaws.{same_is, same_self}
 use Rattle.global_tables.specs.declared.faults.StepFault.{StepFault}
-use Rattle.global_tables.specs.declared.faults.StepFault.TheVariants as fault
 use Rattle.image_laws.specs.LocalSteps.{IsStepped, with_locals}
 use Rattle.image_laws.specs.RowEdits.{Leaves}
 use Rattle.image_laws.proofs.StepLaws.{stepped_done}
 use Rattle.image_laws.proofs.UnderWayLaws.{step_leads}
 use Rattle.local_tables.specs.Altering.{IsSiteOf, to_mark, if_any, edits_of}
 use Rattle.local_tables.proofs.AlteredRows.{mark_made}
+use Rattle.local_tables.proofs.NothingToDo.{nothing_to_mark}
 use Rattle.op_steps.specs.Passing.{Passes, IsTryOf, TriesAt}
-use Rattle.op_steps.specs.Undoing.{IsAttachedAt}
+use Rattle.op_steps.specs.Undoing.{IsOwnSite, IsOwnAt}
 use Rattle.op_steps.specs.Advancing.{StepsAt, Marks, sites_with}
+use Rattle.op_steps.proofs.Courses.{tried_once}
 use Rattle.op_steps.proofs.Passes.{passes_none, passes_found, passes_weaker}
+use Rattle.op_steps.proofs.UndoLaws.{edits_are}
 use Rattle.op_steps.proofs.UndoCalls.{err_not_ok, place_of_site}
 
 -- ---- a local change
@@ -59,43 +61,50 @@ under_way_more image op sites l w d = record {
     by x (inl e) = subst (λ y. IsDone op y (locals_at image y)) e d
     by x (inr m) = w.done x m
 
-module _ (image : Image) (op : Op) (sites : List Text) (sound : Sound image) (w : IsUnderWay image op sites) (l : Text) (here : IsAttachedIn image l) (out : IsOneOf sites l → ⊥) where
+module _ (image : Image) (op : Op) (sites : List Text) (sound : Sound image) (w : IsUnderWay image op sites) (l : Text) (site : IsOwnSite op l image) (out : IsOneOf sites l → ⊥) where
   abbrev Stepped : Locals → Type 0
   Stepped = IsStepped (global image).log op l (locals_at image l)
 
-  pub mark_nothing : (change : Option (List Edit)) → change ≡ None → change ≡ if_any (to_mark (global image).log op l (locals_at image l)) → Marks op (l ∷ sites) (true ≡ true) image []
+  abbrev marks : List Edit
+  marks = to_mark (global image).log op l (locals_at image l)
+
+  pub mark_nothing : (change : Option (List Edit)) → change ≡ None → change ≡ if_any marks → Marks op (l ∷ sites) (true ≡ true) image []
   mark_nothing change is e =
       let v = subst (λ c. Leaves image l (edits_of c) Stepped) is (mark_made image sound op w.logged l change e) in
       record { course = tt; few = omega arith; done = λ k. under_way_more image op sites l w (done_of image op l (locals_at image l) (leaves_nothing image l Stepped v)) }
 
-  module _ (edits : List Edit) (v : Leaves image l edits Stepped) where
+  module _ (edits : List Edit) (e : Some edits ≡ if_any marks) (v : Leaves image l edits Stepped) where
     abbrev there : Image
     there = with_store image (Shard l) (changed (image.at (Shard l)) edits)
 
-    steps : StepsAt op image there
-    steps = record { logged = w.logged; location = l; here = here; unborn = w.unborn l here out; last = v.0; stepped = v.2; is = leaves_there image l edits Stepped v }
+    steps : StepsAt op image (Shard l) edits
+    steps = record {
+      logged = w.logged;
+      location = l;
+      site = site;
+      unborn = w.unborn l site.here out;
+      not_yet = λ done. none-some edits ((nothing_to_mark (global image).log op l (locals_at image l) (sound.keyed (Shard l)).locals (w.unborn l site.here out)).1 done ∙ sym e);
+      place_is = refl;
+      edits = edits_are edits marks e;
+      last = v.0;
+      stepped = v.2;
+      is = leaves_there image l edits Stepped v;
+    }
 
     leads : IsUnderWay there op (l ∷ sites)
     leads = subst (λ i. IsUnderWay i op (l ∷ sites)) (sym (leaves_there image l edits Stepped v)) (step_leads image op sites w l v.0 (done_of image op l v.0 v.2))
 
     mark_tried : (result : Result (Unit {0}) StepFault) (hs : List Happening) → IsTryOf (Shard l) edits result hs → Marks op (l ∷ sites) (IsOk result) image hs
-    mark_tried (Ok done) hs h = subst (Marks op (l ∷ sites) (true ≡ true) image) (sym h) (record { course = (steps, tt); few = omega arith; done = λ k. leads })
-    mark_tried (Err fault.Store) hs h = took h.0 h.1
-      where
-        took : (b : Bool) → hs ≡ Committed (Shard l) edits b ∷ [] → Marks op (l ∷ sites) (false ≡ true) image hs
-        took true e = subst (Marks op (l ∷ sites) (false ≡ true) image) (sym e) (record { course = (steps, tt); few = omega arith; done = λ k. absurd (err_not_ok fault.Store k) })
-        took false e = subst (Marks op (l ∷ sites) (false ≡ true) image) (sym e) (record { course = (tt, tt); few = omega arith; done = λ k. absurd (err_not_ok fault.Store k) })
-    mark_tried (Err fault.Memory) hs h = subst (Marks op (l ∷ sites) (false ≡ true) image) (sym h) (record { course = tt; few = omega arith; done = λ k. absurd (err_not_ok fault.Memory k) })
+    mark_tried result hs h = let r = tried_once (StepsAt op) image (Shard l) edits steps result hs h in record { course = r.course; few = r.few; done = λ k. subst (λ i. IsUnderWay i op (l ∷ sites)) (sym (r.made k)) leads }
 
-  pub mark_some : (edits : List Edit) (change : Option (List Edit)) → change ≡ Some edits → change ≡ if_any (to_mark (global image).log op l (locals_at image l)) → (result : Result (Unit {0}) StepFault) (hs : List Happening) → IsTryOf (Shard l) edits result hs
-      → Marks op (l ∷ sites) (IsOk result) image hs
-  mark_some edits change is e result hs h = mark_tried edits (subst (λ c. Leaves image l (edits_of c) Stepped) is (mark_made image sound op w.logged l change e)) result hs h
+  pub mark_some : (edits : List Edit) (change : Option (List Edit)) → change ≡ Some edits → change ≡ if_any marks → (result : Result (Unit {0}) StepFault) (hs : List Happening) → IsTryOf (Shard l) edits result hs → Marks op (l ∷ sites) (IsOk result) image hs
+  mark_some edits change is e result hs h = mark_tried edits (sym is ∙ e) (subst (λ c. Leaves image l (edits_of c) Stepped) is (mark_made image sound op w.logged l change e)) result hs h
 
 -- ---- the calls
 
 -- What the step at a site makes of a sound image on which the operation is under way.
 abbrev pub MarksOne : Op → Text → Type 0 → Image → List Happening → Type 0
-MarksOne op l ok image hs = (sites : List Text) → Sound image → IsUnderWay image op sites → IsAttachedIn image l → (IsOneOf sites l → ⊥) → Marks op (l ∷ sites) ok image hs
+MarksOne op l ok image hs = (sites : List Text) → Sound image → IsUnderWay image op sites → IsOwnSite op l image → (IsOneOf sites l → ⊥) → Marks op (l ∷ sites) ok image hs
 
 pub mark_none : (op : Op) (l : Text) (e : StepFault) (a b : Outside) → b.told ≡ a.told → IsLater a b → Passes (MarksOne op l (false ≡ true)) a b
 mark_none op l e a b told later = passes_none (MarksOne op l (false ≡ true)) a b told later
@@ -123,7 +132,7 @@ marks_some op l site edits result a b c change is e told later tells tries =
 -- ---- at the site of a mapping
 
 abbrev pub MarksBeside : Op → Option Piece → Option Piece → Type 0 → Image → List Happening → Type 0
-MarksBeside op piece done ok image hs = Sound image → IsUnderWay image op (locations_of (option_to_list done)) → IsAttachedAt piece image → Marks op (sites_with piece done) ok image hs
+MarksBeside op piece done ok image hs = Sound image → IsUnderWay image op (locations_of (option_to_list done)) → IsOwnAt op piece image → Marks op (sites_with piece done) ok image hs
 
 pub no_mark : (op : Op) (o done : Option Piece) (a : Outside) → o ≡ None → Passes (MarksBeside op o done (true ≡ true)) a a
 no_mark op o done a is = subst (λ x. Passes (MarksBeside op x done (true ≡ true)) a a) (sym is) (passes_none (MarksBeside op None done (true ≡ true)) a a refl (later_same a)

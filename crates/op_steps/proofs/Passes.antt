@@ -1,8 +1,7 @@
 -- What happens in one call after another.
-use Rattle.std.proofs.Common.{◌≡◌, Bool, true, false, refl, sym, ap, ◌∙◌, subst, Some, List, [], ◌∷◌, ◌++◌, option_map, arith, ◌≤◌}
-use Rattle.std.specs.Prelude.{Result, Ok, Err, unwrap_or}
+use Rattle.std.proofs.Common.{◌≡◌, Bool, true, refl, sym, ap, ◌∙◌, subst, Some, List, [], ◌∷◌, ◌++◌, option_map, arith}
+use Rattle.std.specs.Prelude.{Ok, Err, unwrap_or}
 use Rattle.std.proofs.lemmas.List.{take_all}
-use Rattle.cell_world.specs.Counts.{NeverFall}
 use Rattle.cell_world.specs.Images.{Image, Place, Happening, Committed, Trail, after_one, after_all, extended, image_at, end_of_trail}
 use Rattle.cell_world.specs.Outside.{Outside, Told, TellsNothing, TellsContents, TellsTrail, IfContents, IsLater, SameButFaults, Commits, told_after, happens, happens_at, place_at}
 use Rattle.cell_world.specs.declared.cells.Site.{Site}
@@ -10,7 +9,7 @@ use Rattle.cell_world.specs.declared.changes.Edit.{Edit}
 use Rattle.cell_world.specs.declared.outside.WorldError.{WorldError}
 use Rattle.cell_world.specs.declared.outside.WorldError.TheVariants as error
 use Rattle.cell_world.proofs.ContentsLaws.{contents_all, contents_weaker, contents_both}
-use Rattle.cell_world.proofs.OutsideLaws.{later_same, later_then}
+use Rattle.cell_world.proofs.OutsideLaws.{later_then}
 use Rattle.global_tables.specs.declared.faults.StepFault.{StepFault}
 use Rattle.global_tables.specs.declared.faults.StepFault.TheVariants as fault
 use Rattle.op_steps.specs.Passing.{Passes, told_after_all, IsTryOf, TriesAt}

@@ -1,5 +1,5 @@
 -- The undo of several operations.
-use Rattle.std.proofs.Common.{◌≡◌, ◌≢◌, ◌⊎◌, ◌<◌, ◌+◌, ℕ, suc, true, false, refl, sym, ap, ◌∙◌, subst, Some, None, Option, inl, inr, List, [], ◌∷◌, ◌++◌, length, take, drop, arith}
+use Rattle.std.proofs.Common.{◌≡◌, ◌≢◌, ◌<◌, ◌+◌, ℕ, suc, true, refl, sym, ap, ◌∙◌, subst, Some, None, Option, inl, inr, List, [], ◌∷◌, ◌++◌, length, take, drop}
 use Rattle.std.specs.Prelude.{IfSome}
 use Rattle.std.specs.FinMap as map
 use Rattle.std.specs.Ordering.{nat_cmp}
@@ -9,10 +9,11 @@ use Rattle.std.proofs.lemmas.Cmp.{nat_cmp_total, tied_itself}
 use Rattle.std.proofs.lemmas.List.{take_more, take-append-drop}
 use Rattle.std.proofs.Math.Seq.{drop-cons}
 use Rattle.std.proofs.lemmas.Map.Lookups.{exact_unsigned}
-use Rattle.std.proofs.lemmas.Option.{none-some, same_Some}
+use Rattle.std.proofs.lemmas.Option.{none-some}
 use Rattle.cell_world.specs.Lists.{IsOneOf}
 use Rattle.cell_world.specs.Stores.{Log}
-use Rattle.cell_world.specs.Images.{Image, Happening, Global, global, after_all}
+use Rattle.cell_world.specs.Images.{Image, Place, Happening, Global, global, after_all}
+use Rattle.cell_world.specs.declared.changes.Edit.{Edit}
 use Rattle.cell_world.specs.Sound.{Sound, HasLog}
 use Rattle.cell_world.specs.declared.operations.Op.{Op}
 use Rattle.cell_world.proofs.ListLaws.{one_of_two, in_first, in_second}
@@ -21,18 +22,18 @@ use Rattle.global_tables.proofs.GroupCells.{own, value_stands, value_there}
 use Rattle.global_tables.proofs.Entries.{entry_stands, entries_rise}
 use Rattle.global_tables.proofs.Rising.{Rising, rising_map_in}
 use Rattle.image_laws.proofs.StepImages.{undo_sound, unlogged_sound}
-use Rattle.op_steps.specs.Passing.{IsCourse}
-use Rattle.op_steps.specs.Undoing.{UndoesAt, Drops, UndoStep, AtSite, LogRow, UndoStepOf, AnyUndoStep, UndoesOp, Undoes, without_ops, AreLogged, OpsDiffer, UndoesOps, UndoesList, UndoesAll}
+use Rattle.op_steps.specs.Passing.{IsCourse, changed_at}
+use Rattle.op_steps.specs.Undoing.{UndoStep, AtSite, LogRow, UndoStepOf, AnyUndoStep, Undoes, without_ops, AreLogged, OpsDiffer, UndoesOps, UndoesList, UndoesAll}
 use Rattle.op_steps.proofs.Courses.{course_keeps, course_then, course_weaker, after_then}
 
 -- ---- a step of undo keeps an image sound
 
-pub undo_step_sound : (op : Op) (image after : Image) → Sound image → UndoStep op image after → Sound after
-undo_step_sound op image after sound (AtSite u) = subst Sound (sym u.is) (undo_sound image sound op u.logged u.location u.here u.last u.swept)
-undo_step_sound op image after sound (LogRow d) = subst Sound (sym d.is) (unlogged_sound image sound op d.logged d.undone)
+pub undo_step_sound : (op : Op) (image : Image) (place : Place) (change : List Edit) → Sound image → UndoStep op image place change → Sound (changed_at image place change)
+undo_step_sound op image place change sound (AtSite u) = subst Sound (sym u.is) (undo_sound image sound op u.logged u.location u.site.here u.last u.swept)
+undo_step_sound op image place change sound (LogRow d) = subst Sound (sym d.is) (unlogged_sound image sound op d.logged d.undone)
 
 pub steps_sound : (These : Op → Type 0) (image : Image) (hs : List Happening) → Sound image → IsCourse (UndoStepOf These) image hs → Sound (after_all image hs)
-steps_sound These image hs sound c = course_keeps (UndoStepOf These) Sound (λ i a s step. undo_step_sound step.0 i a s step.2) image hs sound c
+steps_sound These image hs sound c = course_keeps (UndoStepOf These) Sound (λ i p c s step. undo_step_sound step.0 i p c s step.2) image hs sound c
 
 -- ---- logs without some of their rows
 
@@ -82,8 +83,8 @@ module _ (front : List Op) (op : Op) (rest : List Op) (ok : Type 0) (image : Ima
       let s = q (steps_sound (IsOneOf front) image hs sound r.course) stands in
       record {
         course = course_then (UndoStepOf (IsOneOf (front ++ op ∷ []))) image hs gs
-            (course_weaker (UndoStepOf (IsOneOf front)) (UndoStepOf (IsOneOf (front ++ op ∷ []))) (λ i a h. (h.0, in_first front (op ∷ []) h.0 h.1, h.2)) image hs r.course)
-            (course_weaker (UndoStep op) (UndoStepOf (IsOneOf (front ++ op ∷ []))) (λ i a h. (op, in_second front (op ∷ []) op (inl refl), h)) (after_all image hs) gs s.course);
+            (course_weaker (UndoStepOf (IsOneOf front)) (UndoStepOf (IsOneOf (front ++ op ∷ []))) (λ i p c h. (h.0, in_first front (op ∷ []) h.0 h.1, h.2)) image hs r.course)
+            (course_weaker (UndoStep op) (UndoStepOf (IsOneOf (front ++ op ∷ []))) (λ i p c h. (op, in_second front (op ∷ []) op (inl refl), h)) (after_all image hs) gs s.course);
         gone = λ k. ap (λ i. (global i).log) (sym (after_then image hs gs)) ∙ s.gone k ∙ ap (λ log. map.remove log op.number) (r.gone refl) ∙ without-append (global image).log front (op ∷ []);
       }
 
@@ -100,7 +101,7 @@ next_failed ops i op lt is ok never image hs gs p q sound l =
     let all : ops ≡ take i ops ++ op ∷ drop (suc i) ops = sym (take-append-drop i ops) ∙ ap (λ xs. take i ops ++ xs) (drop-cons ops i op lt ∙ ap (λ o. o ∷ drop (suc i) ops) (sym is)) in
     let r = one_more (take i ops) op (drop (suc i) ops) ok image hs gs p q sound (subst (AreLogged (global image).log) all l) in
     record {
-      course = course_weaker (UndoStepOf (IsOneOf (take i ops ++ op ∷ []))) (UndoStepOf (IsOneOf ops)) (λ j a h. (h.0, subst (λ xs. IsOneOf xs h.0) (sym all) (among h.0 h.1), h.2)) image (hs ++ gs) r.course;
+      course = course_weaker (UndoStepOf (IsOneOf (take i ops ++ op ∷ []))) (UndoStepOf (IsOneOf ops)) (λ j p c h. (h.0, subst (λ xs. IsOneOf xs h.0) (sym all) (among h.0 h.1), h.2)) image (hs ++ gs) r.course;
       gone = λ k. absurd (never k);
     }
   where
@@ -145,7 +146,7 @@ recovered ops ok image hs is p sound =
     let keyed = (sound.keyed Global).log in
     let r = p sound (subst (AreLogged (global image).log) (sym is) (all_logged image sound)) in
     record {
-      course = course_weaker (UndoStepOf (IsOneOf ops)) AnyUndoStep (λ i a h. (h.0, tt, h.2)) image hs r.course;
+      course = course_weaker (UndoStepOf (IsOneOf ops)) AnyUndoStep (λ i p c h. (h.0, tt, h.2)) image hs r.course;
       empty = λ k. r.gone k ∙ ap (without_ops (global image).log) is ∙ map.same_map nat_cmp_total exact_unsigned (without_ops (global image).log (map.values (global image).log)) map.empty
           (λ n. nothing_left keyed n (map.get (global image).log n) refl ∙ sym (map.get-empty nat_cmp n));
     }

@@ -1,6 +1,6 @@
 -- The store count.
-use Rattle.std.proofs.Common.{◌≡◌, ◌⊎◌, ⊎_elim, inl, inr, ℕ, zero, suc, length, ◌+◌, ◌-◌, ◌≤◌, ◌<◌, Bool, true, false, cond, refl, sym, ap, ◌∙◌, subst, Some, None, Option, List, option_map, arith}
-use Rattle.std.specs.Prelude.{slice_get, IsSome, nat_eq, Result, Ok, Err, IsErrOf, unwrap_or}
+use Rattle.std.proofs.Common.{◌≡◌, ⊎_elim, inl, inr, ℕ, zero, suc, length, ◌+◌, ◌-◌, ◌≤◌, ◌<◌, Bool, true, false, cond, refl, subst, Some, None, Option, List, option_map, arith}
+use Rattle.std.specs.Prelude.{slice_get, IsSome, nat_eq, Err, IsErrOf, unwrap_or}
 use Rattle.std.proofs.lemmas.Bool.{cases_lt, eqb-true}
 use Rattle.std.proofs.lemmas.Option.{slice_get_within}
 use Rattle.cell_world.specs.Texts.{Text}

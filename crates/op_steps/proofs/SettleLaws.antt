@@ -1,6 +1,6 @@
 -- The settling of a committed operation, on images and in its calls.
-use Rattle.std.proofs.Common.{◌≡◌, ◌⊎◌, ◌≤◌, ◌+◌, Bool, true, false, refl, sym, ap, ◌∙◌, subst, Some, None, Option, inl, inr, List, [], ◌∷◌, ◌++◌, length, length-append, true≢false, arith}
-use Rattle.std.specs.Prelude.{Result, Ok, Err, IsOk, IsTrue, IfSome, option_to_list}
+use Rattle.std.proofs.Common.{◌≡◌, ◌⊎◌, ◌+◌, Bool, true, false, refl, sym, ap, ◌∙◌, subst, Some, None, Option, inl, inr, List, [], ◌++◌, length, length-append, true≢false, arith}
+use Rattle.std.specs.Prelude.{Result, IsOk, IsTrue, IfSome, option_to_list}
 use Rattle.std.specs.FinMap as map
 use Rattle.std.proofs.lemmas.Bool.{cases_Bool}
 use Rattle.std.proofs.lemmas.Option.{same_Some, none-some}
@@ -8,8 +8,7 @@ use Rattle.cell_world.specs.Texts.{Text}
 use Rattle.cell_world.specs.Keys.{same, is_among}
 use Rattle.cell_world.specs.Lists.{IsOneOf}
 use Rattle.cell_world.specs.Stores.{Store, Locals, changed}
-use Rattle.cell_world.specs.Images.{Image, Shard, Happening, Committed, global, with_store, after_all}
-use Rattle.cell_world.specs.Lawful.{IsAttached}
+use Rattle.cell_world.specs.Images.{Image, Place, Shard, Happening, global, with_store, after_all}
 use Rattle.cell_world.specs.Marked.{HasNoMark}
 use Rattle.cell_world.specs.Operations.{sites_of}
 use Rattle.cell_world.specs.Outside.{Outside, IfContents, IsLater, site_number}
@@ -22,21 +21,22 @@ use Rattle.cell_world.proofs.ContentsLaws.{contents_all, contents_weaker}
 use Rattle.cell_world.proofs.OutsideLaws.{later_same}
 use Rattle.cell_world.proofs.SpanLaws.{same_is}
 use Rattle.global_tables.specs.declared.faults.StepFault.{StepFault}
-use Rattle.global_tables.specs.declared.faults.StepFault.TheVariants as fault
 use Rattle.image_laws.specs.LocalSteps.{IsSettled, with_locals}
 use Rattle.image_laws.specs.RowEdits.{Leaves}
 use Rattle.image_laws.proofs.StepImages.{settle_sound, settled_clean}
 use Rattle.image_laws.proofs.UnderWayLaws.{locals_here, locals_elsewhere}
 use Rattle.local_tables.specs.Altering.{IsSiteOf, to_settle, if_any, edits_of}
 use Rattle.local_tables.proofs.AlteredRows.{settle_made}
+use Rattle.local_tables.proofs.NothingToDo.{nothing_to_settle}
 use Rattle.op_log.specs.Sites.{AreAtMostTwo, locations_in}
 use Rattle.op_log.specs.declared.sites.Sites.{Sites}
-use Rattle.op_steps.specs.Passing.{Passes, IsCourse, IsTryOf, TriesAt}
+use Rattle.op_steps.specs.Passing.{Passes, IsCourse, IsTryOf, TriesAt, changed_at}
 use Rattle.op_steps.specs.Advancing.{SettlesAt, Settles, SettlesIf, SettlesBoth}
-use Rattle.op_steps.proofs.Courses.{course_keeps, course_then, after_then}
+use Rattle.op_steps.proofs.Courses.{course_keeps, course_then, after_then, tried_once}
 use Rattle.op_steps.proofs.MarkLaws.{leaves_nothing, leaves_there}
 use Rattle.op_steps.proofs.Passes.{passes_none, passes_found, passes_weaker}
 use Rattle.op_steps.proofs.UndoCalls.{err_not_ok, place_of_site}
+use Rattle.op_steps.proofs.UndoLaws.{edits_are}
 
 -- ---- what settling leaves
 
@@ -47,8 +47,8 @@ pub record StaysClean (op : Op) (image now : Image) : Type 0 where
   pub locations : now.locations ≡ image.locations
   pub clean : (l : Text) → HasNoMark op (locals_at image l) → HasNoMark op (locals_at now l)
 
-step_clean : (op : Op) (first image after : Image) → StaysClean op first image → SettlesAt op image after → StaysClean op first after
-step_clean op first image after s u = subst (StaysClean op first) (sym u.is) (record {
+step_clean : (op : Op) (first image : Image) (place : Place) (change : List Edit) → StaysClean op first image → SettlesAt op image place change → StaysClean op first (changed_at image place change)
+step_clean op first image place change s u = subst (StaysClean op first) (sym u.is) (record {
   sound = settle_sound image s.sound op.number u.out u.location u.here u.last u.settled;
   globals = s.globals;
   locations = s.locations;
@@ -69,52 +69,60 @@ attached_before op image now s l h = record { known = subst (λ ls. IsTrue (is_a
 
 -- ---- at one site
 
-module _ (image : Image) (op : Op) (sound : Sound image) (out : map.get (global image).log op.number ≡ None) (l : Text) (here : IsAttachedIn image l) where
+module _ (image : Image) (op : Op) (sound : Sound image) (out : map.get (global image).log op.number ≡ None) (l : Text) (own : IsOneOf (sites_of op) l) (here : IsAttachedIn image l) where
   abbrev Clean : Locals → Type 0
   Clean = IsSettled op.number (locals_at image l)
 
-  pub settle_nothing : (change : Option (List Edit)) → change ≡ None → change ≡ if_any (to_settle op (locals_at image l)) → Settles op l (true ≡ true) image []
+  abbrev settling : List Edit
+  settling = to_settle op (locals_at image l)
+
+  pub settle_nothing : (change : Option (List Edit)) → change ≡ None → change ≡ if_any settling → Settles op l (true ≡ true) image []
   settle_nothing change is e =
       let v = subst (λ c. Leaves image l (edits_of c) Clean) is (settle_made image sound op l change e) in
       record { course = tt; few = omega arith; clean = λ k a. settled_clean op (locals_at image l) (locals_at image l) (leaves_nothing image l Clean v) }
 
-  module _ (edits : List Edit) (v : Leaves image l edits Clean) where
+  module _ (edits : List Edit) (e : Some edits ≡ if_any settling) (v : Leaves image l edits Clean) where
     abbrev there : Image
     there = with_store image (Shard l) (changed (image.at (Shard l)) edits)
 
-    settles : SettlesAt op image there
-    settles = record { out = out; location = l; here = here; last = v.0; settled = v.2; is = leaves_there image l edits Clean v }
+    settles : SettlesAt op image (Shard l) edits
+    settles = record {
+      out = out;
+      location = l;
+      own = own;
+      here = here;
+      not_yet = λ clean. none-some edits ((nothing_to_settle op (locals_at image l) (sound.keyed (Shard l)).locals).1 clean ∙ sym e);
+      place_is = refl;
+      edits = edits_are edits settling e;
+      last = v.0;
+      settled = v.2;
+      is = leaves_there image l edits Clean v;
+    }
 
     clean_there : HasNoMark op (locals_at there l)
     clean_there = subst (HasNoMark op) (sym (ap (λ i. locals_at i l) (leaves_there image l edits Clean v) ∙ locals_here image l v.0)) (settled_clean op (locals_at image l) v.0 v.2)
 
     settle_tried : (result : Result (Unit {0}) StepFault) (hs : List Happening) → IsTryOf (Shard l) edits result hs → Settles op l (IsOk result) image hs
-    settle_tried (Ok done) hs h = subst (Settles op l (true ≡ true) image) (sym h) (record { course = (settles, tt); few = omega arith; clean = λ k a. clean_there })
-    settle_tried (Err fault.Store) hs h = took h.0 h.1
-      where
-        took : (b : Bool) → hs ≡ Committed (Shard l) edits b ∷ [] → Settles op l (false ≡ true) image hs
-        took true e = subst (Settles op l (false ≡ true) image) (sym e) (record { course = (settles, tt); few = omega arith; clean = λ k. absurd (err_not_ok fault.Store k) })
-        took false e = subst (Settles op l (false ≡ true) image) (sym e) (record { course = (tt, tt); few = omega arith; clean = λ k. absurd (err_not_ok fault.Store k) })
-    settle_tried (Err fault.Memory) hs h = subst (Settles op l (false ≡ true) image) (sym h) (record { course = tt; few = omega arith; clean = λ k. absurd (err_not_ok fault.Memory k) })
+    settle_tried result hs h = let r = tried_once (SettlesAt op) image (Shard l) edits settles result hs h in record { course = r.course; few = r.few; clean = λ k a. subst (λ i. HasNoMark op (locals_at i l)) (sym (r.made k)) clean_there }
 
-  pub settle_some : (edits : List Edit) (change : Option (List Edit)) → change ≡ Some edits → change ≡ if_any (to_settle op (locals_at image l)) → (result : Result (Unit {0}) StepFault) (hs : List Happening) → IsTryOf (Shard l) edits result hs → Settles op l (IsOk result) image hs
-  settle_some edits change is e result hs h = settle_tried edits (subst (λ c. Leaves image l (edits_of c) Clean) is (settle_made image sound op l change e)) result hs h
+  pub settle_some : (edits : List Edit) (change : Option (List Edit)) → change ≡ Some edits → change ≡ if_any settling → (result : Result (Unit {0}) StepFault) (hs : List Happening) → IsTryOf (Shard l) edits result hs → Settles op l (IsOk result) image hs
+  settle_some edits change is e result hs h = settle_tried edits (sym is ∙ e) (subst (λ c. Leaves image l (edits_of c) Clean) is (settle_made image sound op l change e)) result hs h
 
 -- ---- the calls
 
 abbrev pub SettlesOne : Op → Text → Type 0 → Image → List Happening → Type 0
-SettlesOne op l ok image hs = Sound image → IsTrue (is_among image.locations l) → map.get (global image).log op.number ≡ None → Settles op l ok image hs
+SettlesOne op l ok image hs = Sound image → IsOneOf (sites_of op) l → IsTrue (is_among image.locations l) → map.get (global image).log op.number ≡ None → Settles op l ok image hs
 
 abbrev pub SettlesHere : Op → Text → Type 0 → Image → List Happening → Type 0
 SettlesHere op l ok image hs = IsTrue (is_attached (map.get (global image).away l)) → SettlesOne op l ok image hs
 
 pub settle_none : (op : Op) (l : Text) (e : StepFault) (a b : Outside) → b.told ≡ a.told → IsLater a b → Passes (SettlesHere op l (false ≡ true)) a b
 settle_none op l e a b told later = passes_none (SettlesHere op l (false ≡ true)) a b told later
-    (contents_all a.told (λ image. SettlesHere op l (false ≡ true) image []) (λ image at sound known out. record { course = tt; few = omega arith; clean = λ k. absurd (err_not_ok e k) }))
+    (contents_all a.told (λ image. SettlesHere op l (false ≡ true) image []) (λ image at sound own known out. record { course = tt; few = omega arith; clean = λ k. absurd (err_not_ok e k) }))
 
 pub settle_failed : (op : Op) (l : Text) (e : StepFault) (a b : Outside) → b.told ≡ a.told → IsLater a b → Passes (SettlesOne op l (false ≡ true)) a b
 settle_failed op l e a b told later = passes_none (SettlesOne op l (false ≡ true)) a b told later
-    (contents_all a.told (λ image. SettlesOne op l (false ≡ true) image []) (λ image sound known out. record { course = tt; few = omega arith; clean = λ k. absurd (err_not_ok e k) }))
+    (contents_all a.told (λ image. SettlesOne op l (false ≡ true) image []) (λ image sound own known out. record { course = tt; few = omega arith; clean = λ k. absurd (err_not_ok e k) }))
 
 abbrev TellsSettle : Op → Text → Option (List Edit) → Image → Type 0
 TellsSettle op l change image = change ≡ if_any (to_settle op (locals_at image l))
@@ -127,13 +135,13 @@ tells_at o op l site change e tells = contents_weaker o.told (TellsAt o site op 
 
 pub settles_nothing : (op : Op) (l : Text) (site : Site) (a b : Outside) (change : Option (List Edit)) → change ≡ None → Some site ≡ site_number a.locations l → b.told ≡ a.told → IsLater a b → IfContents a.told (TellsAt a site op change) → Passes (SettlesHere op l (true ≡ true)) a b
 settles_nothing op l site a b change is e told later tells = passes_none (SettlesHere op l (true ≡ true)) a b told later
-    (contents_weaker a.told (TellsSettle op l change) (λ image. SettlesHere op l (true ≡ true) image []) (λ image f at sound known out. settle_nothing image op sound out l (record { known = known; attached = at }) change is f) (tells_at a op l site change e tells))
+    (contents_weaker a.told (TellsSettle op l change) (λ image. SettlesHere op l (true ≡ true) image []) (λ image f at sound own known out. settle_nothing image op sound out l own (record { known = known; attached = at }) change is f) (tells_at a op l site change e tells))
 
 pub settles_some : (op : Op) (l : Text) (site : Site) (edits : List Edit) (result : Result (Unit {0}) StepFault) (a b c : Outside) (change : Option (List Edit)) → change ≡ Some edits → Some site ≡ site_number a.locations l → b.told ≡ a.told → IsLater a b
     → IfContents a.told (TellsAt a site op change) → TriesAt (Shard l) edits result b c → Passes (SettlesHere op l (IsOk result)) a c
 settles_some op l site edits result a b c change is e told later tells tries =
     passes_found (TellsSettle op l change) (λ image hs. IsTryOf (Shard l) edits result hs) (SettlesHere op l (IsOk result)) a b c told later (tells_at a op l site change e tells) tries
-    (λ image hs f h at sound known out. settle_some image op sound out l (record { known = known; attached = at }) edits change is f result hs h)
+    (λ image hs f h at sound own known out. settle_some image op sound out l own (record { known = known; attached = at }) edits change is f result hs h)
 
 -- at a site that is attached, or isn't
 pub settle_attached : (op : Op) (l : Text) (attached : Bool) (ok : Type 0) (a b c : Outside) → attached ≡ true → b.told ≡ a.told → IsLater a b → IfContents a.told (λ image. attached ≡ is_attached (map.get (global image).away l)) → Passes (SettlesHere op l ok) b c → Passes (SettlesOne op l ok) a c
@@ -141,12 +149,12 @@ settle_attached op l attached ok a b c is told later found p = passes_found (λ 
 
 pub settle_away : (op : Op) (l : Text) (attached : Bool) (a b : Outside) → attached ≡ false → b.told ≡ a.told → IsLater a b → IfContents a.told (λ image. attached ≡ is_attached (map.get (global image).away l)) → Passes (SettlesOne op l (true ≡ true)) a b
 settle_away op l attached a b is told later found = passes_none (SettlesOne op l (true ≡ true)) a b told later
-    (contents_weaker a.told (λ image. attached ≡ is_attached (map.get (global image).away l)) (λ image. SettlesOne op l (true ≡ true) image []) (λ image e sound known out. record { course = tt; few = omega arith; clean = λ k at. absurd (true≢false (sym at.attached ∙ sym e ∙ is)) }) found)
+    (contents_weaker a.told (λ image. attached ≡ is_attached (map.get (global image).away l)) (λ image. SettlesOne op l (true ≡ true) image []) (λ image e sound own known out. record { course = tt; few = omega arith; clean = λ k at. absurd (true≢false (sym at.attached ∙ sym e ∙ is)) }) found)
 
 -- ---- at a site, if there is one
 
 abbrev pub SettlesMaybe : Op → Option Text → Type 0 → Image → List Happening → Type 0
-SettlesMaybe op o ok image hs = Sound image → IfSome o (λ l. IsTrue (is_among image.locations l)) → map.get (global image).log op.number ≡ None → SettlesIf op o ok image hs
+SettlesMaybe op o ok image hs = Sound image → IfSome o (λ l. IsOneOf (sites_of op) l × IsTrue (is_among image.locations l)) → map.get (global image).log op.number ≡ None → SettlesIf op o ok image hs
 
 pub no_site : (op : Op) (o : Option Text) (a : Outside) → o ≡ None → Passes (SettlesMaybe op o (true ≡ true)) a a
 no_site op o a is = subst (λ x. Passes (SettlesMaybe op x (true ≡ true)) a a) (sym is) (passes_none (SettlesMaybe op None (true ≡ true)) a a refl (later_same a)
@@ -154,7 +162,7 @@ no_site op o a is = subst (λ x. Passes (SettlesMaybe op x (true ≡ true)) a a)
 
 pub some_site : (op : Op) (o : Option Text) (l : Text) (ok : Type 0) (a b : Outside) → o ≡ Some l → Passes (SettlesOne op l ok) a b → Passes (SettlesMaybe op o ok) a b
 some_site op o l ok a b is p = subst (λ x. Passes (SettlesMaybe op x ok) a b) (sym is) (passes_weaker (SettlesOne op l ok) (SettlesMaybe op (Some l) ok) a b
-    (λ image hs f sound known out. let r = f sound known out in record { course = r.course; few = r.few; clean = λ k x e at. let same : l ≡ x = same_Some l x e in subst (λ y. HasNoMark op (locals_at (after_all image hs) y)) same (r.clean k (subst (IsAttachedIn image) (sym same) at)) }) p)
+    (λ image hs f sound known out. let r = f sound known.0 known.1 out in record { course = r.course; few = r.few; clean = λ k x e at. let same : l ≡ x = same_Some l x e in subst (λ y. HasNoMark op (locals_at (after_all image hs) y)) same (r.clean k (subst (IsAttachedIn image) (sym same) at)) }) p)
 
 -- ---- at both sites
 
@@ -192,9 +200,9 @@ module _ (op : Op) (sites : Sites) (gathered : Gathered op sites) (ok : Type 0) 
   pub both_settled : SettlesMaybe op sites.one (true ≡ true) image hs → SettlesMaybe op sites.two ok (after_all image hs) gs → SettlesAll op ok image (hs ++ gs)
   both_settled p q sound most known out =
       let all = gathered most in
-      let r = p sound (known_one sites.one (λ l. IsTrue (is_among image.locations l)) (λ l e. known l ((all l).0 (one_in sites.one sites.two l e)))) out in
+      let r = p sound (known_one sites.one (λ l. IsOneOf (sites_of op) l × IsTrue (is_among image.locations l)) (λ l e. let m = (all l).0 (one_in sites.one sites.two l e) in (m, known l m))) out in
       let s = course_clean op image hs sound r.course in
-      let t = q s.sound (known_one sites.two (λ l. IsTrue (is_among (after_all image hs).locations l)) (λ l e. subst (λ ls. IsTrue (is_among ls l)) (sym s.locations) (known l ((all l).0 (two_in sites.one sites.two l e))))) (ap (λ (g : Store). map.get g.log op.number) s.globals ∙ out) in
+      let t = q s.sound (known_one sites.two (λ l. IsOneOf (sites_of op) l × IsTrue (is_among (after_all image hs).locations l)) (λ l e. let m = (all l).0 (two_in sites.one sites.two l e) in (m, subst (λ ls. IsTrue (is_among ls l)) (sym s.locations) (known l m)))) (ap (λ (g : Store). map.get g.log op.number) s.globals ∙ out) in
       let u = course_clean op (after_all image hs) gs s.sound t.course in
       record {
         course = course_then (SettlesAt op) image hs gs r.course t.course;
@@ -207,5 +215,5 @@ module _ (op : Op) (sites : Sites) (gathered : Gathered op sites) (ok : Type 0) 
 
 pub first_failed : (op : Op) (sites : Sites) → Gathered op sites → (ok : Type 0) → (ok → ⊥) → (image : Image) (hs : List Happening) → SettlesMaybe op sites.one ok image hs → SettlesAll op ok image hs
 first_failed op sites gathered ok never image hs p sound most known out =
-    let r = p sound (known_one sites.one (λ l. IsTrue (is_among image.locations l)) (λ l e. known l ((gathered most l).0 (one_in sites.one sites.two l e)))) out in
+    let r = p sound (known_one sites.one (λ l. IsOneOf (sites_of op) l × IsTrue (is_among image.locations l)) (λ l e. let m = (gathered most l).0 (one_in sites.one sites.two l e) in (m, known l m))) out in
     record { course = r.course; few = omega (arith, r.few); clean = λ k. absurd (never k) }

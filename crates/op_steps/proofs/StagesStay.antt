@@ -1,18 +1,18 @@
 -- What others leave of an operation at a stage.
-use Rattle.std.proofs.Common.{◌≡◌, ◌≢◌, ◌<◌, ◌+◌, ℕ, Bool, true, false, cond, refl, sym, ap, ◌∙◌, subst, Some, None, Option, inl, inr, List, [], ◌∷◌, ◌++◌, arith}
+use Rattle.std.proofs.Common.{◌≡◌, ◌≢◌, ◌<◌, Bool, true, false, cond, refl, sym, ap, ◌∙◌, subst, None, inl, inr, List, [], arith}
 use Rattle.std.specs.FinMap as map
-use Rattle.std.proofs.lemmas.Bool.{cases_Bool, and_parts}
+use Rattle.std.proofs.lemmas.Bool.{cases_Bool}
 use Rattle.std.proofs.lemmas.Cmp.{nat_cmp_total}
 use Rattle.std.proofs.lemmas.Map.Lookups.{exact_unsigned}
 use Rattle.cell_world.specs.Texts.{Text}
-use Rattle.cell_world.specs.Lists.{IsOneOf}
 use Rattle.cell_world.specs.Keys.{same, overlaps}
 use Rattle.cell_world.specs.Plain.{is_attached}
 use Rattle.cell_world.specs.Stores.{Store, Locals}
-use Rattle.cell_world.specs.Images.{Image, Global, Shard, global, with_store}
+use Rattle.cell_world.specs.Images.{Image, Place, Global, Shard, global, with_store}
+use Rattle.cell_world.specs.declared.changes.Edit.{Edit}
 use Rattle.cell_world.specs.Meaning.{next_operation, counters_of}
 use Rattle.cell_world.specs.Marked.{HasNoMark, MarkTables, mark_tables, MarkedOn, NoMarksElsewhereOn}
-use Rattle.cell_world.specs.Operations.{conflicts, reach_of, sites_of}
+use Rattle.cell_world.specs.Operations.{sites_of}
 use Rattle.cell_world.specs.Sound.{Sound, HasLog, IsAttachedIn, locals_at}
 use Rattle.cell_world.specs.Sweep.{IsSwept}
 use Rattle.cell_world.specs.UnderWay.{IsDone, IsUnborn, IsUnderWay, UnderWayOn}
@@ -33,6 +33,7 @@ use Rattle.image_laws.proofs.SoundParts.{are_logged, births_apart}
 use Rattle.image_laws.proofs.StepLaws.{unborn_swept}
 use Rattle.image_laws.proofs.UnderWayLaws.{under_way_local, under_way_global, locals_here, locals_elsewhere}
 use Rattle.op_log.specs.ShortChanges.{ShortChange, Catalog, Unshard, Retoken, PutRow, DeleteRow}
+use Rattle.op_steps.specs.Passing.{changed_at}
 use Rattle.op_steps.specs.Undoing.{UndoStep, AtSite, LogRow}
 use Rattle.op_steps.specs.Beginning.{Logs}
 use Rattle.op_steps.specs.Advancing.{IsCommitted, AtStage, AdvanceStep, Stepping, Committing, Settling}
@@ -113,16 +114,16 @@ removed_none image op other e = elim (get-remove_cases nat_cmp_total exact_unsig
 
 -- ---- the transactions of others
 
-module _ (op other : Op) (name : StageName) (image after : Image) (sound : Sound image) (ne : other.number ≢ op.number) (at : AtStage op name image) where
+module _ (op other : Op) (name : StageName) (image : Image) (place : Place) (change : List Edit) (sound : Sound image) (ne : other.number ≢ op.number) (at : AtStage op name image) where
   turned : op.number ≢ other.number
   turned e = ne (sym e)
 
   removed : HasLog (global image).log op → HasLog (map.remove (global image).log other.number) op
   removed h = get-remove_other nat_cmp_total exact_unsigned (global image).log other.number op.number turned ∙ h
 
-  pub advance_leaves : AdvanceStep other image after → AtStage op name after
+  pub advance_leaves : AdvanceStep other image place change → AtStage op name (changed_at image place change)
   advance_leaves (Stepping s) = subst (AtStage op name) (sym s.is) (stage_local op image s.location s.last
-      (λ logged done. done_born op other s.location s.stepped.middle s.last turned (births_apart image sound op other logged s.logged turned) s.stepped.born (swept_done image sound op other ne s.logged s.location s.here logged (Old other.number) s.stepped.middle s.stepped.swept done))
+      (λ logged done. done_born op other s.location s.stepped.middle s.last turned (births_apart image sound op other logged s.logged turned) s.stepped.born (swept_done image sound op other ne s.logged s.location s.site.here logged (Old other.number) s.stepped.middle s.stepped.swept done))
       (λ unborn. unborn_born op.number other.number s.location _ s.stepped.middle s.last turned s.stepped.born (unborn_swept (global image).log other (Old other.number) (locals_at image s.location) s.stepped.middle op.number s.stepped.swept unborn))
       (λ clean. none_born op other.number ne s.location _ s.stepped.middle s.last s.stepped.born (none_swept op other (global image).log (Old other.number) (Step other.number refl ne) (locals_at image s.location) s.stepped.middle s.stepped.swept clean))
       name at)
@@ -133,9 +134,9 @@ module _ (op other : Op) (name : StageName) (image after : Image) (sound : Sound
       (λ clean. none_settled op other.number (locals_at image s.location) s.last s.settled clean)
       name at)
 
-  pub undo_leaves : UndoStep other image after → AtStage op name after
+  pub undo_leaves : UndoStep other image place change → AtStage op name (changed_at image place change)
   undo_leaves (AtSite u) = subst (AtStage op name) (sym u.is) (stage_local op image u.location u.last
-      (λ logged done. swept_done image sound op other ne u.logged u.location u.here logged Plain u.last u.swept done)
+      (λ logged done. swept_done image sound op other ne u.logged u.location u.site.here logged Plain u.last u.swept done)
       (λ unborn. unborn_swept (global image).log other Plain (locals_at image u.location) u.last op.number u.swept unborn)
       (λ clean. none_swept op other (global image).log Plain (Undo refl) (locals_at image u.location) u.last u.swept clean)
       name at)
@@ -149,8 +150,8 @@ number_given op TargetDone image sound w = sound.logged.numbered op w.logged
 number_given op Committed image sound c = c.out.1
 number_given op Settled image sound c = c.0.out.1
 
-pub begin_leaves : (op other : Op) (name : StageName) (image after : Image) → Sound image → AtStage op name image → Logs other image after → AtStage op name after
-begin_leaves op other name image after sound at l = subst (AtStage op name) (sym l.is) (stage_global op image _ refl (λ h. inserted ∙ h) (λ e. inserted ∙ e) (λ lt. omega (arith, lt)) name at)
+pub begin_leaves : (op other : Op) (name : StageName) (image : Image) (place : Place) (change : List Edit) → Sound image → AtStage op name image → Logs other image place change → AtStage op name (changed_at image place change)
+begin_leaves op other name image place change sound at l = subst (AtStage op name) (sym l.is) (stage_global op image _ refl (λ h. inserted ∙ h) (λ e. inserted ∙ e) (λ lt. omega (arith, lt)) name at)
   where
     apart : op.number ≢ other.number
     apart e = let given = number_given op name image sound at in let same : other.number ≡ next_operation image = l.number in absurd (omega (arith, given, same, e))
@@ -187,9 +188,9 @@ row_leaves op name image l s e = by name
     by Committed c = kept c
     by Settled c = (kept c.0, subst (λ (t : MarkTables). MarkedOn t op Settled) tables c.1)
 
-pub short_leaves : (op : Op) (name : StageName) (reached : Reach) (image after : Image) → AtStage op name image → ShortChange image reached after → AtStage op name after
-short_leaves op name reached image after at (Catalog r maps shards tables serves is) = subst (AtStage op name) (sym is) (stage_global op image _ refl (λ h. h) (λ e. e) (λ lt. lt) name at)
-short_leaves op name reached image after at (Unshard map_name location r here unmapped untargeted is) = subst (AtStage op name) (sym is) (stage_global op image _ refl (λ h. h) (λ e. e) (λ lt. lt) name at)
-short_leaves op name reached image after at (Retoken p has r token old_free new_free is) = subst (AtStage op name) (sym is) (stage_global op image _ refl (λ h. h) (λ e. e) (λ lt. lt) name at)
-short_leaves op name reached image after at (PutRow r row bytes p owned online here tabled is) = subst (AtStage op name) (sym is) (row_leaves op name image p.location _ refl at)
-short_leaves op name reached image after at (DeleteRow r row p owned online here is) = subst (AtStage op name) (sym is) (row_leaves op name image p.location _ refl at)
+pub short_leaves : (op : Op) (name : StageName) (reached : Reach) (image now : Image) → AtStage op name image → ShortChange image reached now → AtStage op name now
+short_leaves op name reached image now at (Catalog r maps shards tables serves is) = subst (AtStage op name) (sym is) (stage_global op image _ refl (λ h. h) (λ e. e) (λ lt. lt) name at)
+short_leaves op name reached image now at (Unshard map_name location r here unmapped untargeted is) = subst (AtStage op name) (sym is) (stage_global op image _ refl (λ h. h) (λ e. e) (λ lt. lt) name at)
+short_leaves op name reached image now at (Retoken p has r token old_free new_free is) = subst (AtStage op name) (sym is) (stage_global op image _ refl (λ h. h) (λ e. e) (λ lt. lt) name at)
+short_leaves op name reached image now at (PutRow r row bytes p owned online here tabled is) = subst (AtStage op name) (sym is) (row_leaves op name image p.location _ refl at)
+short_leaves op name reached image now at (DeleteRow r row p owned online here is) = subst (AtStage op name) (sym is) (row_leaves op name image p.location _ refl at)

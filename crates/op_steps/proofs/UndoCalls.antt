@@ -1,17 +1,17 @@
 -- The calls of undo, one after another.
 use Rattle.std.proofs.Common.{◌≡◌, ◌⊎◌, true, false, refl, sym, ap, ◌∙◌, subst, Some, None, Option, inl, inr, List, [], ◌∷◌}
-use Rattle.std.specs.Prelude.{Result, Ok, Err, IsOk, IsSome, IsErrOf}
+use Rattle.std.specs.Prelude.{Result, Err, IsOk, IsSome, IsErrOf}
 use Rattle.std.specs.FinMap as map
 use Rattle.cell_world.specs.Counts.{Rose}
-use Rattle.std.proofs.lemmas.Option.{same_Some, none-some}
-use Rattle.cell_world.specs.Images.{Image, Place, Global, Shard, Happening, global, after_all}
+use Rattle.std.proofs.lemmas.Option.{same_Some}
+use Rattle.cell_world.specs.Images.{Image, Global, Shard, Happening, global, after_all}
 use Rattle.cell_world.specs.Keys.{same}
 use Rattle.cell_world.specs.declared.cells.CellKey.TheVariants as at
 use Rattle.cell_world.specs.declared.changes.Edit.TheVariants.{Delete}
 use Rattle.cell_world.proofs.SpanLaws.{same_is}
 use Rattle.image_laws.specs.LocalSteps.{IsUndone}
 use Rattle.cell_world.specs.Outside.{Outside, IfContents, IsLater, IsSite, StoreRoseBy, place_at, site_number}
-use Rattle.cell_world.specs.Sound.{Sound, HasLog, IsAttachedIn, locals_at}
+use Rattle.cell_world.specs.Sound.{Sound, HasLog, locals_at}
 use Rattle.cell_world.specs.Sweep.{IsSweptPlain}
 use Rattle.cell_world.specs.Texts.{Text}
 use Rattle.cell_world.specs.declared.cells.Site.{Site}
@@ -25,9 +25,9 @@ use Rattle.global_tables.specs.declared.faults.StepFault.TheVariants as fault
 use Rattle.image_laws.proofs.SiteLaws.{place_of_number}
 use Rattle.local_tables.specs.Altering.{IsSiteOf, to_undo, if_any}
 use Rattle.op_steps.specs.Passing.{Passes, IsTryOf, TriesAt}
-use Rattle.op_steps.specs.Undoing.{PlainsSites, IsPlainAt, IsAttachedAt, DropsRow, UndoesList, Recovers}
+use Rattle.op_steps.specs.Undoing.{IsOwnSite, PlainsSites, IsPlainAt, IsOwnAt, DropsRow, UndoesList, Recovers}
 use Rattle.op_steps.proofs.Passes.{passes_none, passes_found, passes_weaker}
-use Rattle.op_steps.proofs.Rises.{rose_at, rose_global, rose_after}
+use Rattle.op_steps.proofs.Rises.{rose_at, rose_global}
 use Rattle.op_steps.proofs.RecoverLaws.{none_undone, recovered}
 use Rattle.op_steps.proofs.UndoLaws.{nothing_undone, tried_there, tried_drop}
 
@@ -57,7 +57,7 @@ rose_either a b location site e later (inr r) = rose_global a b later.faults r
 
 -- What undo at a site makes of a sound image.
 abbrev pub PlainsOne : Op → Text → Type 0 → Image → List Happening → Type 0
-PlainsOne op location ok image hs = Sound image → HasLog (global image).log op → IsAttachedIn image location → PlainsSites op ok (λ after. IsSweptPlain op (locals_at after location)) image hs
+PlainsOne op location ok image hs = Sound image → HasLog (global image).log op → IsOwnSite op location image → PlainsSites op ok (λ after. IsSweptPlain op (locals_at after location)) image hs
 
 pub none_tried : (op : Op) (location : Text) (ok : Type 0) (a b : Outside) → (ok → ⊥) → b.told ≡ a.told → IsLater a b → Passes (PlainsOne op location ok) a b
 none_tried op location ok a b never told later =
@@ -111,7 +111,7 @@ drop_none op a = passes_none (DropsOne op (IsOk {T = Unit {0}} {E = StepFault} (
 
 -- What undo at the site of a mapping makes of a sound image, where that of another one is done.
 abbrev pub PlainsBeside : Op → Option Piece → Option Piece → Type 0 → Image → List Happening → Type 0
-PlainsBeside op piece done ok image hs = Sound image → HasLog (global image).log op → IsAttachedAt piece image → IsPlainAt op done image → PlainsSites op ok (IsPlainAt op piece) image hs
+PlainsBeside op piece done ok image hs = Sound image → HasLog (global image).log op → IsOwnAt op piece image → IsPlainAt op done image → PlainsSites op ok (IsPlainAt op piece) image hs
 
 pub same_site : (op : Op) (o d : Option Piece) (piece done : Piece) (ok : Type 0) (a : Outside) → o ≡ Some piece → d ≡ Some done → same piece.location done.location ≡ true → Passes (PlainsBeside op o d ok) a a
 same_site op o d piece done ok a is was t = subst (λ (x : Option Piece × Option Piece). Passes (PlainsBeside op x.0 x.1 ok) a a) (λ i. (sym is i, sym was i)) (passes_none (PlainsBeside op (Some piece) (Some done) ok) a a refl (later_same a)

@@ -24,7 +24,9 @@ NoneInWay live reach log = (op : Op) → HasLog log op → is_in_way live reach 
 
 -- Of the logged operations that are in the way this one has the least number.
 pub record IsLeastInWay (live : List ℕ) (reach : Reach) (log : Log) (op : Op) : Type 0 where
+  -- it is logged
   pub logged : HasLog log op
+  -- it is live, and conflicts with what is reached
   pub in_way : is_in_way live reach op ≡ true
   -- each other one has a number no less
   pub least : (other : Op) → HasLog log other → is_in_way live reach other ≡ true → op.number ≤ other.number
@@ -50,12 +52,16 @@ FindsFirst test ops (Some op) = IsFirstOf test ops op
 
 -- the operation conflicts, and isn't live
 pub record IsAbandonedInWay (live : List ℕ) (reach : Reach) (op : Op) : Type 0 where
+  -- it conflicts with what is reached
   pub conflict : conflicts reach op ≡ true
+  -- and no session has a step of it ahead
   pub abandoned : is_live live op.number ≡ false
 
 -- No live operation was in the way, and the abandoned ones were undone: of the log just those that don't conflict stand.
 pub record IsCleared (live : List ℕ) (reach : Reach) (image : Image) (hs : List Happening) : Type 0 where
+  -- no live operation was in the way
   pub none : NoneInWay live reach (global image).log
+  -- nothing was tried but to undo abandoned ones that conflict
   pub course : IsCourse (UndoStepOf (IsAbandonedInWay live reach)) image hs
   -- those that stand now stood, and don't conflict
   pub clear : (op : Op) → HasLog (global (after_all image hs)).log op → HasLog (global image).log op × (conflicts reach op ≡ false)

@@ -3,4 +3,5 @@ pub mod Beginning
 pub mod Clearing
 pub mod Live
 pub mod Passing
+pub mod Stages
 pub mod Undoing

@@ -1,5 +1,5 @@
 -- Lists of live operations.
-use Rattle.std.specs.Prelude.{◌≡◌, ◌≤◌, ◌==◌, ℕ, Bool, List, [], ◌∷◌, length, not, filter}
+use Rattle.std.specs.Prelude.{◌≡◌, ◌≤◌, ◌==◌, ℕ, Bool, List, length, not, filter}
 use Rattle.std.specs.List.{list_any}
 use Rattle.op_steps.specs.declared.live.TheConstants.{MOST_LIVE}
 

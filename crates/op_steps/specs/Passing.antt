@@ -1,5 +1,5 @@
 -- What a call makes of the stores, from its beginning to its end: the transactions that it tried, in order, and the image before and after each of them.
-use Rattle.std.specs.Prelude.{◌≡◌, Bool, true, false, List, [], ◌∷◌, Result, Ok, Err}
+use Rattle.std.specs.Prelude.{◌≡◌, Bool, true, List, [], ◌∷◌, Result, Ok, Err}
 use Rattle.cell_world.specs.Images.{Image, Place, Happening, Committed, Wrote, Reopened, with_store, after_one}
 use Rattle.cell_world.specs.Stores.{changed}
 use Rattle.cell_world.specs.Outside.{Outside, Told, IfContents, IsLater, told_after}
@@ -27,15 +27,18 @@ pub record Passes (P : Image → List Happening → Type 0) (old new : Outside) 
 
 -- ---- courses
 
--- a transaction was tried, and where it took it was such a step
-abbrev pub Tries : (Image → Image → Type 0) → Image → Happening → Type 0
-Tries Step image (Committed place change true) = Step image (after_one image (Committed place change true))
-Tries Step image (Committed place change false) = Unit {0}
+-- the image with a change made at a place
+abbrev pub changed_at : Image → Place → List Edit → Image
+changed_at image place change = with_store image place (changed (image.at place) change)
+
+-- A transaction was tried, and it was such a step: at this place, with this change, whether it took or not.
+abbrev pub Tries : (Image → Place → List Edit → Type 0) → Image → Happening → Type 0
+Tries Step image (Committed place change took) = Step image place change
 Tries Step image (Wrote bytes) = ⊥
 Tries Step image (Reopened place cells) = ⊥
 
--- Transactions were tried one after another from the image on, and each that took was such a step. Nothing else happened.
-abbrev pub IsCourse : (Image → Image → Type 0) → Image → List Happening → Type 0
+-- Transactions were tried one after another from the image on, and each was such a step. One that took is made, and one that didn't leaves the image. Nothing else happened.
+abbrev pub IsCourse : (Image → Place → List Edit → Type 0) → Image → List Happening → Type 0
 IsCourse Step image [] = Unit {0}
 IsCourse Step image (h ∷ hs) = Tries Step image h × IsCourse Step (after_one image h) hs
 
@@ -51,6 +54,12 @@ abbrev pub IsTryOf : Place → List Edit → Result (Unit {0}) StepFault → Lis
 IsTryOf place change (Ok done) hs = hs ≡ Committed place change true ∷ []
 IsTryOf place change (Err fault.Store) hs = (took : Bool) × (hs ≡ Committed place change took ∷ [])
 IsTryOf place change (Err fault.Memory) hs = hs ≡ []
+
+-- the call failed for want of memory
+abbrev pub FailsByMemory : {T : Type 0} → Result T StepFault → Type 0
+FailsByMemory (Ok value) = ⊥
+FailsByMemory (Err fault.Store) = ⊥
+FailsByMemory (Err fault.Memory) = Unit {0}
 
 -- The change was tried at the place.
 abbrev pub TriesAt : Place → List Edit → Result (Unit {0}) StepFault → Outside → Outside → Type 0

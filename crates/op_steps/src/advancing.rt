@@ -1,8 +1,9 @@
 //! A long operation goes on, stage by stage.
 ghost use Rattle.std.specs.Prelude.{◌≡◌, IfOk, IsErrOf, IsOk};
 ghost use Rattle.cell_world.specs.Outside.{StoreRoseBy};
-ghost use Rattle.op_steps.specs.Advancing.{Advances, next_stage};
-ghost use Rattle.op_steps.specs.Passing.{Passes};
+ghost use Rattle.op_steps.specs.Advancing.{Advances};
+ghost use Rattle.op_steps.specs.Passing.{FailsByMemory, Passes};
+ghost use Rattle.op_steps.specs.Stages.{name_of, next_stage, number_of};
 
 use crate::committing::commit_operation;
 use crate::settling::settle_sites;
@@ -21,7 +22,7 @@ fn step_on<W: World>(
     op: &Op,
     name: StageName,
 ) -> Result<(), StepFault>
-    ensures passes { Passes (Advances op.now name (IsOk result)) (W.outside world.old) (W.outside world.new) }
+    ensures passes { Passes (Advances op.now name (IsOk result) (FailsByMemory result)) (W.outside world.old) (W.outside world.new) }
     ensures cause { IsErrOf result StepFault.Store → StoreRoseBy 1 (W.outside world.old) (W.outside world.new) }
 {
     match name {
@@ -33,42 +34,25 @@ fn step_on<W: World>(
     }
 }
 
-/// The stage after this one; Settled is the last.
-fn next_name(name: StageName) -> StageName
-    ensures { result ≡ next_stage name }
-{
-    match name {
-        StageName::Logged => StageName::SourceDone,
-        StageName::SourceDone => StageName::TargetDone,
-        StageName::TargetDone => StageName::Committed,
-        StageName::Committed => StageName::Settled,
-        StageName::Settled => StageName::Settled,
-    }
-}
-
 /// Leads an operation on to its next stage, by at most one transaction, or in Committed one at each of its sites, and none
 /// where there is nothing to do. From Settled it does nothing and answers Settled.
 ///
 /// The stage is the operation's own. It is spent, after a fault too: then the operation is abandoned, and to undo it does
-/// the rest. `Store`: a store refused; what was tried last is made or not made. `Memory`: it isn't made.
+/// the rest, where its log row still stands. `Store`: a store refused; what was tried last is made or not made. `Memory`:
+/// from TargetDone the commit wasn't tried; settling may be made at the first site.
 pub fn advance<W: World>(
     alloc: Global,
     world: &mut W,
     op: &Op,
     stage: Stage,
 ) -> Result<Stage, StepFault>
-    ensures passes { Passes (Advances op.now stage.name (IsOk result)) (W.outside world.old) (W.outside world.new) }
-    ensures number { IfOk result (λ next. next.number ≡ stage.number) }
-    ensures name { IfOk result (λ next. next.name ≡ next_stage stage.name) }
+    ensures passes { Passes (Advances op.now (name_of stage) (IsOk result) (FailsByMemory result)) (W.outside world.old) (W.outside world.new) }
+    ensures number { IfOk result (λ next. number_of next ≡ number_of stage) }
+    ensures name { IfOk result (λ next. name_of next ≡ next_stage (name_of stage)) }
     ensures cause { IsErrOf result StepFault.Store → StoreRoseBy 1 (W.outside world.old) (W.outside world.new) }
 {
-    let number = stage.number;
-    let name = stage.name;
-    match step_on(alloc, world, op, name) {
-        Ok(()) => Ok(Stage {
-            number,
-            name: next_name(name),
-        }),
+    match step_on(alloc, world, op, stage.name()) {
+        Ok(()) => Ok(stage.advanced()),
         Err(fault) => Err(fault),
     }
 }

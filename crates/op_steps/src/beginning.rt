@@ -1,11 +1,11 @@
 //! The beginning of a long operation.
-ghost use Rattle.std.specs.Prelude.{◌≡◌, IfOk, IsErrOf, IsTrue};
+ghost use Rattle.std.specs.Prelude.{◌≡◌, ℕ, List, IfOk, IsErrOf, IsTrue};
 ghost use Rattle.cell_world.specs.Counts.{Rose};
 ghost use Rattle.cell_world.specs.Images.{global};
 ghost use Rattle.cell_world.specs.Meaning.{counters_of};
 ghost use Rattle.cell_world.specs.Outside.{IfContents, IsLater, StoreRoseBy};
 ghost use Rattle.cell_world.specs.Spelled.{is_spelled};
-ghost use Rattle.op_steps.specs.Beginning.{Begins, Goes, LogsOp, log_edits, numbered};
+ghost use Rattle.op_steps.specs.Beginning.{Begins, FailsByStore, Goes, LogsOp, SaysBegun, fault_at, fault_before, log_edits, numbered};
 ghost use Rattle.op_steps.specs.Passing.{Passes};
 
 use crate::clearing::clear_way;
@@ -32,6 +32,37 @@ pub enum Begun {
     Going(Op, Stage),
     /// This live operation is in its way.
     Pending(Op),
+}
+
+/// Why an operation hasn't begun.
+#[derive(Clone, Copy, Debug, PartialEq, Eq)]
+pub enum BeginFault {
+    /// Want of memory, or the counter of operations stands at 2^63 or above. The log row wasn't tried.
+    Memory,
+    /// A store refused before the log row was tried.
+    Store,
+    /// The store refused the log row of this number. It is put or not put.
+    Tried(u64),
+}
+
+/// The fault of a call before the log row was tried.
+fn fault_before(fault: StepFault) -> BeginFault
+    ensures { result ≡ fault_before fault }
+{
+    match fault {
+        StepFault::Store => BeginFault::Store,
+        StepFault::Memory => BeginFault::Memory,
+    }
+}
+
+/// The fault of the transaction that puts the log row of this number.
+fn fault_at(number: u64, fault: StepFault) -> BeginFault
+    ensures { result ≡ fault_at number fault }
+{
+    match fault {
+        StepFault::Store => BeginFault::Tried(number),
+        StepFault::Memory => BeginFault::Memory,
+    }
 }
 
 /// The operation with this number.
@@ -82,38 +113,41 @@ fn log_under<W: World>(
     world: &mut W,
     op: &Op,
     next: &Counters,
-) -> Result<Op, StepFault>
+) -> Result<Op, BeginFault>
     requires { IsTrue (is_spelled (Cell.Log op.now)) }
     ensures passes { Passes (λ image hs. next.now ≡ counters_of (global image).counter → LogsOp op.now result image hs) (W.outside world.old) (W.outside world.new) }
-    ensures cause { IsErrOf result StepFault.Store → StoreRoseBy 1 (W.outside world.old) (W.outside world.new) }
+    ensures asked { IfOk result (λ made. made ≡ numbered op.now made.number) }
+    ensures cause { FailsByStore result → StoreRoseBy 1 (W.outside world.old) (W.outside world.new) }
 {
     let made = numbered(op, next.operation);
     match log_change(alloc, &made, next) {
         Ok(change) => match commit(alloc, world, Site::GLOBAL, &change) {
             Ok(()) => Ok(made),
-            Err(fault) => Err(fault),
+            Err(fault) => Err(fault_at(next.operation, fault)),
         },
-        Err(Memory) => Err(StepFault::Memory),
+        Err(Memory) => Err(BeginFault::Memory),
     }
 }
 
 /// Logs an operation that conflicts with none that is logged.
-fn log_operation<W: World>(alloc: Global, world: &mut W, op: &Op) -> Result<Op, StepFault>
+fn log_operation<W: World>(alloc: Global, world: &mut W, op: &Op) -> Result<Op, BeginFault>
     requires { IsTrue (is_spelled (Cell.Log op.now)) }
     ensures passes { Passes (LogsOp op.now result) (W.outside world.old) (W.outside world.new) }
-    ensures cause { IsErrOf result StepFault.Store → StoreRoseBy 1 (W.outside world.old) (W.outside world.new) }
+    ensures asked { IfOk result (λ made. made ≡ numbered op.now made.number) }
+    ensures cause { FailsByStore result → StoreRoseBy 1 (W.outside world.old) (W.outside world.new) }
 {
     match next_numbers(alloc, world) {
         Ok(next) => log_under(alloc, world, op, &next),
-        Err(fault) => Err(fault),
+        Err(fault) => Err(fault_before(fault)),
     }
 }
 
 /// Logs an operation that conflicts with none that is logged, and gives its first stage.
-fn go<W: World>(alloc: Global, world: &mut W, op: &Op) -> Result<Begun, StepFault>
+fn go<W: World>(alloc: Global, world: &mut W, op: &Op) -> Result<Begun, BeginFault>
     requires { IsTrue (is_spelled (Cell.Log op.now)) }
     ensures passes { Passes (Goes op.now result) (W.outside world.old) (W.outside world.new) }
-    ensures cause { IsErrOf result StepFault.Store → StoreRoseBy 1 (W.outside world.old) (W.outside world.new) }
+    ensures says { (live : List ℕ) → SaysBegun live op.now result }
+    ensures cause { FailsByStore result → StoreRoseBy 1 (W.outside world.old) (W.outside world.new) }
 {
     match log_operation(alloc, world, op) {
         Ok(made) => Ok(Begun::Going(made, Stage::logged(made.number))),
@@ -125,20 +159,21 @@ fn go<W: World>(alloc: Global, world: &mut W, op: &Op) -> Result<Begun, StepFaul
 ///
 /// `Pending`: the live operation of least number that conflicts with it, and nothing was done. `Going`: the abandoned operations that conflict were undone, and it is logged under the number that stood; the counter is one more.
 ///
-/// What the stores stand for stays, whatever is answered. `Store`: a store refused; the operation may be logged. `Memory`: it isn't. After either some abandoned operations may be undone.
+/// What the stores stand for stays, whatever is answered. `Tried`: the log row of this number was tried and refused; it is put or not put, and the number is that of the operation from then on. `Store`, `Memory`: it wasn't tried. After any of them abandoned operations may be undone, and after `Tried` all that conflict are.
 pub fn begin<W: World>(
     alloc: Global,
     world: &mut W,
     op: &Op,
     live: &LiveList,
-) -> Result<Begun, StepFault>
+) -> Result<Begun, BeginFault>
     requires { IsTrue (is_spelled (Cell.Log op.now)) }
     ensures passes { Passes (Begins live.now op.now result) (W.outside world.old) (W.outside world.new) }
-    ensures cause { IsErrOf result StepFault.Store → StoreRoseBy 1 (W.outside world.old) (W.outside world.new) }
+    ensures says { SaysBegun live.now op.now result }
+    ensures cause { FailsByStore result → StoreRoseBy 1 (W.outside world.old) (W.outside world.new) }
 {
     match clear_way(alloc, world, &reach_of(op), live) {
         Ok(Some(other)) => Ok(Begun::Pending(other)),
         Ok(None) => go(alloc, world, op),
-        Err(fault) => Err(fault),
+        Err(fault) => Err(fault_before(fault)),
     }
 }

@@ -1,5 +1,5 @@
 //! The way of a command: live operations in it, and abandoned ones that are undone.
-ghost use Rattle.std.specs.Prelude.{◌≡◌, filter, IfOk, IsErrOf, IsOk};
+ghost use Rattle.std.specs.Prelude.{◌≡◌, true, filter, IfOk, IfSome, IsErrOf, IsOk};
 ghost use Rattle.cell_world.specs.Operations as operation;
 ghost use Rattle.cell_world.specs.Outside.{StoreRoseBy};
 ghost use Rattle.op_steps.specs.Clearing.{Clears, FindsFirst, is_in_way};
@@ -74,6 +74,7 @@ pub fn clear_way<W: World>(
     live: &LiveList,
 ) -> Result<Option<Op>, StepFault>
     ensures passes { Passes (Clears live.now reach.now result) (W.outside world.old) (W.outside world.new) }
+    ensures in_way { IfOk result (λ found. IfSome found (λ op. is_in_way live.now reach.now op ≡ true)) }
     ensures cause { IsErrOf result StepFault.Store → StoreRoseBy 1 (W.outside world.old) (W.outside world.new) }
 {
     match log_rows(alloc, world) {

@@ -6,7 +6,7 @@ ghost use Rattle.cell_world.specs.Spelled.{listed};
 ghost use Rattle.cell_world.specs.UnderWay.{IsUnderWay};
 ghost use Rattle.image_laws.specs.CommitEdits.{commit_edits, deletes, extra_edits, puts};
 ghost use Rattle.op_steps.specs.Advancing.{Commits, sites_with};
-ghost use Rattle.op_steps.specs.Passing.{Passes};
+ghost use Rattle.op_steps.specs.Passing.{FailsByMemory, Passes};
 
 use crate::commits::commit;
 use cell_world::cells::{Cell, CellKey, Site};
@@ -92,7 +92,7 @@ fn commit_change(alloc: Global, op: &Op) -> Result<Change, Memory>
 
 /// Commits an operation that has all its marks.
 pub fn commit_operation<W: World>(alloc: Global, world: &mut W, op: &Op) -> Result<(), StepFault>
-    ensures passes { Passes (λ image hs. Sound image → IsUnderWay image op.now (sites_with op.now.news.one op.now.olds.one) → Commits op.now (IsOk result) image hs) (W.outside world.old) (W.outside world.new) }
+    ensures passes { Passes (λ image hs. Sound image → IsUnderWay image op.now (sites_with op.now.news.one op.now.olds.one) → Commits op.now (IsOk result) (FailsByMemory result) image hs) (W.outside world.old) (W.outside world.new) }
     ensures cause { IsErrOf result StepFault.Store → StoreRoseBy 1 (W.outside world.old) (W.outside world.new) }
 {
     match commit_change(alloc, op) {

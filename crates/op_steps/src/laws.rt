@@ -1,17 +1,19 @@
 //! What the transactions of operations leave of the stores, at each moment. Each law is the contract of a function that does nothing.
-ghost use Rattle.std.specs.Prelude.{◌≡◌, ◌≢◌, ◌⊎◌, ℕ, List};
-ghost use Rattle.cell_world.specs.Images.{Image, Happening, global};
+ghost use Rattle.std.specs.Prelude.{◌≡◌, ◌≢◌, ◌⊎◌, ◌+◌, ◌∷◌, [], ℕ, Bool, List};
+ghost use Rattle.cell_world.specs.Images.{Image, Happening, Place, global};
 ghost use Rattle.cell_world.specs.Marked.{Marked, committed};
-ghost use Rattle.cell_world.specs.Meaning.{meaning};
+ghost use Rattle.cell_world.specs.Meaning.{meaning, next_operation};
 ghost use Rattle.cell_world.specs.Sound.{Sound};
 ghost use Rattle.cell_world.specs.declared.operations.Op.{Op};
 ghost use Rattle.cell_world.specs.declared.operations.StageName.{StageName};
 ghost use Rattle.cell_world.specs.declared.operations.Reach.{Reach};
+ghost use Rattle.cell_world.specs.declared.changes.Edit.{Edit};
 ghost use Rattle.op_log.specs.ShortChanges.{ShortChange};
-ghost use Rattle.op_steps.specs.Advancing.{AdvanceStep, AtStage};
-ghost use Rattle.op_steps.specs.Beginning.{BeginStep, Logs};
-ghost use Rattle.op_steps.specs.Passing.{AtEach, IsCourse};
+ghost use Rattle.op_steps.specs.Advancing.{AdvanceStep, AtStage, StepFrom};
+ghost use Rattle.op_steps.specs.Beginning.{BeginStep, ClearsAndTries, Logs};
+ghost use Rattle.op_steps.specs.Passing.{AtEach, IsCourse, changed_at};
 ghost use Rattle.op_steps.specs.Undoing.{AnyUndoStep, UndoStep};
+ghost use Rattle.plain_model.specs.OnTrail.{logs_put};
 
 /// While operations are undone, wherever that stops, each image is sound and stands for the same.
 pub fn undo_keeps_sound_and_meaning()
@@ -19,16 +21,18 @@ pub fn undo_keeps_sound_and_meaning()
     ensures all { (image : Image) → Sound image → (hs : List Happening) → IsCourse AnyUndoStep image hs → AtEach (λ now. Sound now × (meaning now ≡ meaning image)) image hs }
 {}
 
-/// While an operation begins, wherever that stops, each image is sound and stands for the same.
+/// While an operation begins, wherever that stops, each image is sound and stands for the same. What is tried of it, the log row at last, is such a course.
 pub fn beginning_keeps_sound_and_meaning()
-    ensures { (live : List ℕ) (op : Op) (image : Image) → Sound image → (hs : List Happening) → IsCourse (BeginStep live op) image hs → AtEach (λ now. Sound now × (meaning now ≡ meaning image)) image hs }
+    ensures course { (live : List ℕ) (op made : Op) (took : Bool) (image : Image) (hs : List Happening) → ClearsAndTries live op made took image hs → IsCourse (BeginStep live op) image hs }
+    ensures each { (live : List ℕ) (op : Op) (image : Image) → Sound image → (hs : List Happening) → IsCourse (BeginStep live op) image hs → AtEach (λ now. Sound now × (meaning now ≡ meaning image)) image hs }
 {}
 
-/// While an operation goes on, wherever that stops, each image is sound. What the stores stand for stays but at the commit, which puts the new mappings in place of the old ones and puts the job.
+/// While an operation goes on, wherever that stops, each image is sound; what leads on from a stage is such a course. What the stores stand for stays but at the commit, which puts the new mappings in place of the old ones and puts the job.
 pub fn advancing_keeps_sound()
+    ensures course { (op : Op) (name : StageName) (image : Image) (hs : List Happening) → IsCourse (StepFrom name op) image hs → IsCourse (AdvanceStep op) image hs }
     ensures sound { (op : Op) (image : Image) → Sound image → (hs : List Happening) → IsCourse (AdvanceStep op) image hs → AtEach Sound image hs }
-    ensures meaning { (op : Op) (image : Image) → Sound image → (after : Image) → AdvanceStep op image after →
-        (meaning after ≡ meaning image) ⊎ (meaning after ≡ record (meaning image) { mappings = (committed (global image) op).mappings; jobs = (committed (global image) op).jobs }) }
+    ensures meaning { (op : Op) (image : Image) → Sound image → (place : Place) (change : List Edit) → AdvanceStep op image place change →
+        (meaning (changed_at image place change) ≡ meaning image) ⊎ (meaning (changed_at image place change) ≡ record (meaning image) { mappings = (committed (global image) op).mappings; jobs = (committed (global image) op).jobs }) }
 {}
 
 /// What is carried at a stage is what the cells say of it: the operation is marked so.
@@ -38,8 +42,16 @@ pub fn stages_are_marked()
 
 /// What is carried of an operation at a stage stays while another one goes on, is undone, or begins, and through each short change and each row that is put or deleted. Marked at a stage, at Settled too, it stays so; no mark of it comes to another site.
 pub fn others_leave_stages()
-    ensures goes_on { (op other : Op) (name : StageName) (image after : Image) → Sound image → other.number ≢ op.number → AtStage op name image → AdvanceStep other image after → AtStage op name after }
-    ensures undone { (op other : Op) (name : StageName) (image after : Image) → Sound image → other.number ≢ op.number → AtStage op name image → UndoStep other image after → AtStage op name after }
-    ensures begins { (op other : Op) (name : StageName) (image after : Image) → Sound image → AtStage op name image → Logs other image after → AtStage op name after }
+    ensures goes_on { (op other : Op) (name : StageName) (image : Image) (place : Place) (change : List Edit) → Sound image → other.number ≢ op.number → AtStage op name image → AdvanceStep other image place change → AtStage op name (changed_at image place change) }
+    ensures undone { (op other : Op) (name : StageName) (image : Image) (place : Place) (change : List Edit) → Sound image → other.number ≢ op.number → AtStage op name image → UndoStep other image place change → AtStage op name (changed_at image place change) }
+    ensures begins { (op other : Op) (name : StageName) (image : Image) (place : Place) (change : List Edit) → Sound image → AtStage op name image → Logs other image place change → AtStage op name (changed_at image place change) }
     ensures short { (op : Op) (name : StageName) (reached : Reach) (image after : Image) → AtStage op name image → ShortChange image reached after → AtStage op name after }
+{}
+
+/// The log row of an operation that begins is the only log cell that a transaction was to put, made or not: it has the number that stands, and where it is made the next one stands afterwards. The others leave the counter of operations.
+pub fn one_log_row_is_tried()
+    ensures undone { (op : Op) (image : Image) (place : Place) (change : List Edit) → UndoStep op image place change → (logs_put change ≡ []) × (next_operation (changed_at image place change) ≡ next_operation image) }
+    ensures goes_on { (op : Op) (image : Image) (place : Place) (change : List Edit) → AdvanceStep op image place change → (logs_put change ≡ []) × (next_operation (changed_at image place change) ≡ next_operation image) }
+    ensures begins { (op : Op) (image : Image) (place : Place) (change : List Edit) → Logs op image place change →
+        (logs_put change ≡ op ∷ []) × (op.number ≡ next_operation image) × (next_operation (changed_at image place change) ≡ next_operation image + 1) }
 {}

@@ -7,7 +7,7 @@ use std::marker::Model;
 /// The most live operations: one for each session.
 pub const MOST_LIVE: usize = 16;
 
-/// The numbers of live operations, each once, in a fixed array. Contracts see the list.
+/// The numbers of live operations in a fixed array. Contracts see the list.
 #[derive(Drop)]
 pub struct LiveList {
     count: usize,

@@ -45,7 +45,7 @@ fn settle_attached<W: World>(
     op: &Op,
     location: &Location,
 ) -> Result<(), StepFault>
-    ensures passes { Passes (λ image hs. IsTrue (is_attached (map.get (global image).away location.now)) → Sound image → IsTrue (is_among image.locations location.now) → map.get (global image).log op.now.number ≡ None → Settles op.now location.now (IsOk result) image hs) (W.outside world.old) (W.outside world.new) }
+    ensures passes { Passes (λ image hs. IsTrue (is_attached (map.get (global image).away location.now)) → Sound image → IsOneOf (operation.sites_of op.now) location.now → IsTrue (is_among image.locations location.now) → map.get (global image).log op.now.number ≡ None → Settles op.now location.now (IsOk result) image hs) (W.outside world.old) (W.outside world.new) }
     ensures cause { IsErrOf result StepFault.Store → StoreRoseBy 1 (W.outside world.old) (W.outside world.new) }
 {
     let Some(site) = world.locate(location) else {
@@ -65,7 +65,7 @@ fn settle_at<W: World>(
     op: &Op,
     location: &Location,
 ) -> Result<(), StepFault>
-    ensures passes { Passes (λ image hs. Sound image → IsTrue (is_among image.locations location.now) → map.get (global image).log op.now.number ≡ None → Settles op.now location.now (IsOk result) image hs) (W.outside world.old) (W.outside world.new) }
+    ensures passes { Passes (λ image hs. Sound image → IsOneOf (operation.sites_of op.now) location.now → IsTrue (is_among image.locations location.now) → map.get (global image).log op.now.number ≡ None → Settles op.now location.now (IsOk result) image hs) (W.outside world.old) (W.outside world.new) }
     ensures cause { IsErrOf result StepFault.Store → StoreRoseBy 1 (W.outside world.old) (W.outside world.new) }
 {
     match is_attached_now(alloc, world, location) {
@@ -87,7 +87,7 @@ fn settle_if<W: World>(
     op: &Op,
     location: &Option<Location>,
 ) -> Result<(), StepFault>
-    ensures passes { Passes (λ image hs. Sound image → IfSome location.now (λ l. IsTrue (is_among image.locations l)) → map.get (global image).log op.now.number ≡ None → SettlesIf op.now location.now (IsOk result) image hs) (W.outside world.old) (W.outside world.new) }
+    ensures passes { Passes (λ image hs. Sound image → IfSome location.now (λ l. IsOneOf (operation.sites_of op.now) l × IsTrue (is_among image.locations l)) → map.get (global image).log op.now.number ≡ None → SettlesIf op.now location.now (IsOk result) image hs) (W.outside world.old) (W.outside world.new) }
     ensures cause { IsErrOf result StepFault.Store → StoreRoseBy 1 (W.outside world.old) (W.outside world.new) }
 {
     match location {

@@ -2,11 +2,11 @@
 ghost use Rattle.std.specs.Prelude.{◌≡◌, ◌∷◌, [], IfOk, IsErrOf, IsOk};
 ghost use Rattle.cell_world.specs.Images.{global};
 ghost use Rattle.cell_world.specs.Outside.{StoreRoseBy};
-ghost use Rattle.cell_world.specs.Sound.{Sound, HasLog, IsAttachedIn, locals_at};
+ghost use Rattle.cell_world.specs.Sound.{Sound, HasLog, locals_at};
 ghost use Rattle.cell_world.specs.Sweep.{IsSweptPlain};
 ghost use Rattle.image_laws.specs.LocalSteps.{IsUndone};
 ghost use Rattle.op_steps.specs.Passing.{Passes};
-ghost use Rattle.op_steps.specs.Undoing.{DropsRow, IsAttachedAt, IsPlainAt, PlainsSites, Recovers, Undoes, UndoesList};
+ghost use Rattle.op_steps.specs.Undoing.{DropsRow, IsOwnAt, IsOwnSite, IsPlainAt, PlainsSites, Recovers, Undoes, UndoesList};
 
 use crate::commits::commit;
 use cell_world::cells::{CellKey, Site};
@@ -27,7 +27,7 @@ fn undo_at<W: World>(
     op: &Op,
     location: &Location,
 ) -> Result<(), StepFault>
-    ensures passes { Passes (λ image hs. Sound image → HasLog (global image).log op.now → IsAttachedIn image location.now → PlainsSites op.now (IsOk result) (λ after. IsSweptPlain op.now (locals_at after location.now)) image hs) (W.outside world.old) (W.outside world.new) }
+    ensures passes { Passes (λ image hs. Sound image → HasLog (global image).log op.now → IsOwnSite op.now location.now image → PlainsSites op.now (IsOk result) (λ after. IsSweptPlain op.now (locals_at after location.now)) image hs) (W.outside world.old) (W.outside world.new) }
     ensures cause { IsErrOf result StepFault.Store → StoreRoseBy 1 (W.outside world.old) (W.outside world.new) }
 {
     let Some(site) = world.locate(location) else {
@@ -48,7 +48,7 @@ fn undo_beside<W: World>(
     piece: &Option<Piece>,
     done: &Option<Piece>,
 ) -> Result<(), StepFault>
-    ensures passes { Passes (λ image hs. Sound image → HasLog (global image).log op.now → IsAttachedAt piece.now image → IsPlainAt op.now done.now image → PlainsSites op.now (IsOk result) (IsPlainAt op.now piece.now) image hs) (W.outside world.old) (W.outside world.new) }
+    ensures passes { Passes (λ image hs. Sound image → HasLog (global image).log op.now → IsOwnAt op.now piece.now image → IsPlainAt op.now done.now image → PlainsSites op.now (IsOk result) (IsPlainAt op.now piece.now) image hs) (W.outside world.old) (W.outside world.new) }
     ensures cause { IsErrOf result StepFault.Store → StoreRoseBy 1 (W.outside world.old) (W.outside world.new) }
 {
     match (piece, done) {
@@ -72,7 +72,7 @@ fn undo_both<W: World>(
     pieces: &Pieces,
     done: &Option<Piece>,
 ) -> Result<(), StepFault>
-    ensures passes { Passes (λ image hs. Sound image → HasLog (global image).log op.now → IsAttachedAt pieces.now.one image → IsAttachedAt pieces.now.two image → IsPlainAt op.now done.now image →
+    ensures passes { Passes (λ image hs. Sound image → HasLog (global image).log op.now → IsOwnAt op.now pieces.now.one image → IsOwnAt op.now pieces.now.two image → IsPlainAt op.now done.now image →
         PlainsSites op.now (IsOk result) (λ after. IsPlainAt op.now pieces.now.one after × IsPlainAt op.now pieces.now.two after) image hs) (W.outside world.old) (W.outside world.new) }
     ensures cause { IsErrOf result StepFault.Store → StoreRoseBy 1 (W.outside world.old) (W.outside world.new) }
 {
@@ -115,7 +115,7 @@ fn drop_log_row<W: World>(alloc: Global, world: &mut W, op: &Op) -> Result<(), S
 
 /// Undoes one logged operation: its marks are taken back at each of its sites, and then its log row goes. Its log cell stands and is this operation.
 ///
-/// What the stores stand for stays, whatever is answered. `Store`: a store refused. After an error the operation may be undone in part, and wholly after `Store`; to undo it once more does the rest.
+/// What the stores stand for stays, whatever is answered. `Store`: a store refused. After an error the operation may be undone in part, and after `Store` wholly: look at the log first, and where its log row still stands, to undo it once more does the rest.
 pub fn undo<W: World>(alloc: Global, world: &mut W, op: &Op) -> Result<(), StepFault>
     ensures passes { Passes (Undoes op.now (IsOk result)) (W.outside world.old) (W.outside world.new) }
     ensures cause { IsErrOf result StepFault.Store → StoreRoseBy 1 (W.outside world.old) (W.outside world.new) }
@@ -140,7 +140,7 @@ pub fn undo_all<W: World>(alloc: Global, world: &mut W, ops: &[Op]) -> Result<()
     Ok(())
 }
 
-/// Undoes all logged operations, in order of number.
+/// Undoes all logged operations, one after another.
 ///
 /// What the stores stand for stays, whatever is answered. `Store`: a store refused. After an error some may be undone, and one in part; to recover once more does the rest.
 pub fn recover<W: World>(alloc: Global, world: &mut W) -> Result<(), StepFault>

@@ -1,9 +1,8 @@
-use Rattle.std.proofs.Common.{ap}
+use Rattle.std.proofs.Common.{ap, subst}
 use Rattle.std.specs.Prelude.{Err}
-use Rattle.op_steps.specs.declared.beginning.Begun.{Begun}
-use Rattle.op_steps.proofs.BeginLaws.{pending, going, way_not_cleared}
+use Rattle.op_steps.specs.Beginning.{IsOfStore}
+use Rattle.op_steps.proofs.BeginLaws.{pending, going, way_not_cleared, store_before}
 use Rattle.op_steps.proofs.Rises.{rose_after}
-use Rattle.op_steps.proofs.UndoCalls.{fault_in}
 use Rattle.op_steps.proofs.beginning.begin.Goals as goal
 
 pub returns-in-Ok-Some-clause-passes : goal.returns-in-Ok-Some-clause-passes
@@ -20,7 +19,10 @@ returns-in-Ok-None-clause-cause g c h =
 
 pub returns-in-Err-clause-passes : goal.returns-in-Err-clause-passes
 returns-in-Err-clause-passes g c =
-    way_not_cleared c.args.live.now c.args.op.now c.in-Err.fault (g.W.World.outside c.args.world.now) (g.W.World.outside c.clear_way.new.world) (rw (← c.reach_of.ensures) c.in-Err.ensures.passes)
+    rw (c.fault_before.ensures) (way_not_cleared c.args.live.now c.args.op.now c.in-Err.fault (g.W.World.outside c.args.world.now) (g.W.World.outside c.clear_way.new.world) (rw (← c.reach_of.ensures) c.in-Err.ensures.passes))
 
 pub returns-in-Err-clause-cause : goal.returns-in-Err-clause-cause
-returns-in-Err-clause-cause g c h = c.in-Err.ensures.cause (ap Err (fault_in Begun c.in-Err.fault h))
+returns-in-Err-clause-cause g c h = c.in-Err.ensures.cause (ap Err (store_before c.in-Err.fault (subst IsOfStore c.fault_before.ensures h)))
+
+pub returns-in-Ok-None-clause-says : goal.returns-in-Ok-None-clause-says
+returns-in-Ok-None-clause-says g c = c.go.ensures.says c.args.live.now

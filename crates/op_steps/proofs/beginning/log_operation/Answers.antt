@@ -1,10 +1,8 @@
-use Rattle.std.proofs.Common.{ap}
+use Rattle.std.proofs.Common.{ap, subst}
 use Rattle.std.specs.Prelude.{Err}
-use Rattle.cell_world.specs.declared.operations.Op.{Op}
-use Rattle.cell_world.specs.declared.cells.Counters.{Counters}
-use Rattle.op_steps.proofs.BeginLaws.{logs_found, logs_not}
+use Rattle.op_steps.specs.Beginning.{IsOfStore}
+use Rattle.op_steps.proofs.BeginLaws.{logs_found, logs_not, store_before}
 use Rattle.op_steps.proofs.Rises.{rose_after, rose_global}
-use Rattle.op_steps.proofs.UndoCalls.{fault_in}
 use Rattle.op_steps.proofs.beginning.log_operation.Goals as goal
 
 pub returns-in-Ok-clause-passes : goal.returns-in-Ok-clause-passes
@@ -16,8 +14,9 @@ returns-in-Ok-clause-cause g c h =
     rose_after (g.W.World.outside c.args.world.now) (g.W.World.outside c.next_numbers.new.world) (g.W.World.outside c.log_under.new.world) c.in-Ok.ensures.later (c.log_under.ensures.cause h)
 
 pub returns-in-Err-clause-passes : goal.returns-in-Err-clause-passes
-returns-in-Err-clause-passes g c = logs_not c.args.op.now c.in-Err.fault (g.W.World.outside c.args.world.now) (g.W.World.outside c.next_numbers.new.world) c.in-Err.ensures.told c.in-Err.ensures.later
+returns-in-Err-clause-passes g c =
+    rw (c.fault_before.ensures) (logs_not c.args.op.now c.in-Err.fault (g.W.World.outside c.args.world.now) (g.W.World.outside c.next_numbers.new.world) c.in-Err.ensures.told c.in-Err.ensures.later)
 
 pub returns-in-Err-clause-cause : goal.returns-in-Err-clause-cause
 returns-in-Err-clause-cause g c h =
-    rose_global (g.W.World.outside c.args.world.now) (g.W.World.outside c.next_numbers.new.world) c.in-Err.ensures.later.faults (c.in-Err.ensures.cause (ap Err (fault_in Op c.in-Err.fault h)))
+    rose_global (g.W.World.outside c.args.world.now) (g.W.World.outside c.next_numbers.new.world) c.in-Err.ensures.later.faults (c.in-Err.ensures.cause (ap Err (store_before c.in-Err.fault (subst IsOfStore c.fault_before.ensures h))))

@@ -30,3 +30,6 @@ returns-clause-passes g c = clears_none c.args.live.now c.args.reach.now c.in-Er
 pub returns-clause-cause : goal.returns-clause-cause
 returns-clause-cause g c h =
     rose_global (g.W.World.outside c.args.world.now) (g.W.World.outside c.log_rows.new.world) c.in-Err.ensures.later.faults (c.in-Err.ensures.cause (ap Err (fault_in (Option Op) c.in-Err.fault h)))
+
+pub returns-in-Some-clause-in_way : goal.returns-in-Some-clause-in_way
+returns-in-Some-clause-in_way g c = c.in-Some.ensures.passes

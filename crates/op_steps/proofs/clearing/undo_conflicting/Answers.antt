@@ -1,4 +1,3 @@
-use Rattle.std.proofs.Common.{sym, ◌∙◌}
 use Rattle.op_steps.proofs.ClearLaws.{undoes_none}
 use Rattle.op_steps.proofs.clearing.undo_conflicting.Goals as goal
 

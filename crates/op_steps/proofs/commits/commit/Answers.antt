@@ -1,4 +1,3 @@
-use Rattle.cell_world.specs.Outside.{Commits}
 use Rattle.op_steps.proofs.Passes.{commit_ok, commit_err}
 use Rattle.op_steps.proofs.Rises.{rose_fault}
 use Rattle.op_steps.proofs.commits.commit.Goals as goal

@@ -1,4 +1,3 @@
-use Rattle.std.proofs.Common.{◌∙◌, sym}
 use Rattle.op_steps.proofs.MarkLaws.{no_mark, mark_same, mark_first, mark_other}
 use Rattle.op_steps.proofs.stepping.mark_beside.Goals as goal
 

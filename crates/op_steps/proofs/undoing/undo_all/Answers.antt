@@ -1,6 +1,3 @@
-use Rattle.std.proofs.Common.{refl}
-use Rattle.cell_world.proofs.ContentsLaws.{contents_all}
-use Rattle.cell_world.proofs.OutsideLaws.{later_same}
 use Rattle.op_steps.proofs.Passes.{passes_then}
 use Rattle.op_steps.proofs.Rises.{rose_after}
 use Rattle.op_steps.proofs.UndoCalls.{err_not_ok, list_begins}

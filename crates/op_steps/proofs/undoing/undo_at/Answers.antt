@@ -4,7 +4,7 @@ use Rattle.global_tables.specs.declared.faults.StepFault.TheVariants as fault
 use Rattle.cell_world.specs.Images.{Shard}
 use Rattle.cell_world.proofs.OutsideLaws.{later_same}
 use Rattle.op_steps.proofs.Rises.{rose_after}
-use Rattle.op_steps.proofs.UndoCalls.{err_not_ok, fault_is, site_is_some, still_site, rose_either, none_tried, none_to_do, some_to_do, place_of_site, site_later}
+use Rattle.op_steps.proofs.UndoCalls.{err_not_ok, fault_is, site_is_some, still_site, rose_either, none_tried, none_to_do, some_to_do, site_later}
 use Rattle.op_steps.proofs.undoing.undo_at.Goals as goal
 
 pub returns-in_default-clause-passes : goal.returns-in_default-clause-passes

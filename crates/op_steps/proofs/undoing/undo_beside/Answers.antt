@@ -1,4 +1,3 @@
-use Rattle.std.proofs.Common.{◌∙◌, sym}
 use Rattle.op_steps.proofs.UndoCalls.{same_site, other_site}
 use Rattle.op_steps.proofs.undoing.undo_beside.Goals as goal
 

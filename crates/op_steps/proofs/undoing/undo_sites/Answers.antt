@@ -1,4 +1,3 @@
-use Rattle.std.proofs.Common.{None}
 use Rattle.op_steps.proofs.Passes.{passes_then, passes_weaker}
 use Rattle.op_steps.proofs.Rises.{rose_after}
 use Rattle.op_steps.proofs.UndoCalls.{err_not_ok}
