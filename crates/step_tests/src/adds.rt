@@ -62,7 +62,7 @@ fn made_beside(
             Ok(Begun::Going(op, stage)) => {
                 undone(alloc, world, other)?;
                 let last = settled(alloc, world, &op, stage)?;
-                if last.name == StageName::Settled {
+                if last.name() == StageName::Settled {
                     Ok(op.number)
                 } else {
                     Err(Fail::from("not settled"))
