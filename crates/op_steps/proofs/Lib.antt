@@ -4,6 +4,7 @@ pub mod BeginLaws
 pub mod ClearLaws
 pub mod CommitLaws
 pub mod Courses
+pub mod LiveLaws
 pub mod MarkLaws
 pub mod MeaningLaws
 pub mod NumberLaws

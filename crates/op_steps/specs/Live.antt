@@ -1,5 +1,5 @@
 -- Lists of live operations.
-use Rattle.std.specs.Prelude.{◌≡◌, ◌≤◌, ◌==◌, ℕ, Bool, List, length, not, filter}
+use Rattle.std.specs.Prelude.{◌≡◌, ◌≤◌, ◌==◌, ℕ, Bool, false, List, [], ◌∷◌, length, not, filter, take}
 use Rattle.std.specs.List.{list_any}
 use Rattle.op_steps.specs.declared.live.TheConstants.{MOST_LIVE}
 
@@ -11,6 +11,11 @@ is_live numbers number = list_any (λ n. n == number) numbers
 abbrev pub all_but : ℕ → List ℕ → List ℕ
 all_but number numbers = filter (λ n. not (n == number)) numbers
 
--- The first so many numbers of an array are listed.
+-- no number stands twice
+abbrev pub AreDistinct : List ℕ → Type 0
+AreDistinct [] = Unit {0}
+AreDistinct (n ∷ ns) = (is_live ns n ≡ false) × AreDistinct ns
+
+-- The first so many numbers of an array are listed, and none of them twice.
 abbrev pub IsListing : ℕ → List ℕ → Type 0
-IsListing count numbers = (count ≤ MOST_LIVE) × (length numbers ≡ MOST_LIVE)
+IsListing count numbers = (count ≤ MOST_LIVE) × (length numbers ≡ MOST_LIVE) × AreDistinct (take count numbers)

@@ -1,13 +1,13 @@
 //! Which operations are live: those of which some session has a step ahead.
 ghost use Rattle.std.specs.Prelude.{◌≡◌, ◌<◌, ◌≤◌, ◌++◌, ◌∷◌, [], length, false};
-ghost use Rattle.op_steps.specs.Live.{is_live, all_but};
+ghost use Rattle.op_steps.specs.Live.{AreDistinct, all_but, is_live};
 
 use std::marker::Model;
 
 /// The most live operations: one for each session.
 pub const MOST_LIVE: usize = 16;
 
-/// The numbers of live operations in a fixed array. Contracts see the list.
+/// The numbers of live operations, each once, in a fixed array. Contracts see the list.
 #[derive(Drop)]
 pub struct LiveList {
     count: usize,
@@ -40,6 +40,7 @@ impl LiveList {
     pub fn as_slice(&self) -> &[u64]
         ensures list { result.now ≡ self.now }
         ensures few { length self.now ≤ MOST_LIVE }
+        ensures distinct { AreDistinct self.now }
     {
         &self.numbers[..self.count]
     }
@@ -62,7 +63,8 @@ impl LiveList {
 
     /// Puts the number at the end.
     fn push(&mut self, number: u64)
-        requires { length self.old < MOST_LIVE }
+        requires room { length self.old < MOST_LIVE }
+        requires fresh { is_live self.old number ≡ false }
         ensures { self.new ≡ self.old ++ number ∷ [] }
     {
         self.numbers[self.count] = number;
