@@ -13,7 +13,12 @@ use std::test::Fail;
 use world_memory::world::MemoryWorld;
 
 /// Leads an operation that begun on to Settled.
-fn settled(alloc: Global, world: &mut MemoryWorld, op: &Op, stage: Stage) -> Result<Stage, Fail> {
+pub(crate) fn settled(
+    alloc: Global,
+    world: &mut MemoryWorld,
+    op: &Op,
+    stage: Stage,
+) -> Result<Stage, Fail> {
     let source = advance(alloc, world, op, stage)?;
     let target = advance(alloc, world, op, source)?;
     let committed = advance(alloc, world, op, target)?;

@@ -4,4 +4,6 @@
 #[cfg(test)]
 mod adds;
 #[cfg(test)]
+mod shapes;
+#[cfg(test)]
 mod stores;
