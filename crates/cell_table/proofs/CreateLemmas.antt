@@ -1,6 +1,5 @@
 -- What the table begins with.
-use Rattle.std.proofs.Common.{◌≡◌, ℕ, [], false, None, Ok, Err, Result, OnOk, refl, sym, ap, subst, ◌∙◌}
-use Rattle.sqlite.specs.Tree.{Trees}
+use Rattle.std.proofs.Common.{◌≡◌, ℕ, [], false, None, Ok, Err, Result, OnOk, sym, ap, subst, ◌∙◌}
 use Rattle.sqlite.specs.Change.{created, next_tree}
 use Rattle.sqlite.specs.Command.TheVariants.{CreateTable}
 use Rattle.sqlite.specs.Does.{Tally, lacks_sequence}

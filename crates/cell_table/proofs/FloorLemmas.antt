@@ -1,10 +1,9 @@
 -- What the first statement answers.
-use Rattle.std.proofs.Common.{◌≡◌, ◌⊎◌, inl, inr, ℕ, zero, suc, ◌==◌, ◌&&◌, pos, List, [], ◌∷◌, ◌++◌, map, length, Bool, true, false, cond, Some, None, Ok, Err, Result, refl, sym, ap, ap₂, subst, ◌∙◌, arith, true≢false, All, take, Less, Equal, Greater, Ordering, nat_cmp, int_cmp, is_eq, is_lt, is_le}
+use Rattle.std.proofs.Common.{◌≡◌, ◌⊎◌, ℕ, ◌==◌, ◌&&◌, pos, List, [], ◌∷◌, ◌++◌, map, Bool, true, false, cond, Some, refl, sym, ap, ap₂, subst, ◌∙◌, arith, true≢false, All, take, Less, Equal, Greater, Ordering, nat_cmp, int_cmp, is_eq, is_lt, is_le}
 use Rattle.std.specs.Prelude.{Contains, filter, flat_map, IsSorted, IsPermutation}
 use Rattle.std.specs.List.{list_all}
 use Rattle.std.specs.Ordering.{ordering_reverse}
 use Rattle.std.specs.Cmp.Lexicographic.{slice_cmp}
-use Rattle.std.proofs.lemmas.Bool.{cases_Bool}
 use Rattle.std.proofs.lemmas.Bool.Decides.{nat_tests}
 use Rattle.std.proofs.lemmas.Cmp.{nat_list_cmp_total}
 use Rattle.std.proofs.lemmas.List.Elements.{All-nil, All-cons, All-head, All-tail, All-weaker, Contains-append_right}
@@ -14,16 +13,14 @@ use Rattle.sqlite_value.specs.declared.value.Value.TheVariants.{Null, Int, Blob}
 use Rattle.sqlite_value.specs.Order.{Row, value_cmp}
 use Rattle.sqlite_value.proofs.OrderLemmas.{value_cmp-Int, value_cmp-Blob, then-Equal}
 use Rattle.sqlite.specs.Collation.TheVariants.{Binary}
-use Rattle.sqlite.specs.Term.{Term, Env, holds}
+use Rattle.sqlite.specs.Term.{Env, holds}
 use Rattle.sqlite.specs.Ops.{binary, is_true, from_truth, is_null, test}
 use Rattle.sqlite_sql.specs.declared.ops.CompareOp.{CompareOp}
-use Rattle.sqlite_sql.specs.declared.ops.CompareOp.TheVariants.{Eq, Le, Ge}
+use Rattle.sqlite_sql.specs.declared.ops.CompareOp.TheVariants.{Eq, Le}
 use Rattle.sqlite_sql.specs.declared.ops.BinaryOp.TheVariants.{Compare}
-use Rattle.sqlite.specs.Query.{Query, IsAnswer, output, output_cmp, Output, matches, inner, end}
+use Rattle.sqlite.specs.Query.{IsAnswer, output, output_cmp, Output}
 use Rattle.sqlite.specs.Program.{overlay}
 use Rattle.sqlite_sql.proofs.QueryLemmas.{output_cmp_total}
-use Rattle.sqlite.specs.Tree.{Trees}
-use Rattle.sqlite.specs.Effect.{Answers}
 use Rattle.sqlite.specs.State.{State, Shown}
 use Rattle.sqlite.proofs.Callers.{reads_as}
 use Rattle.cell_table.specs.Cells.{cells_schema, Entry, row_of, shown, is_up_to, is_below, IsFloor}

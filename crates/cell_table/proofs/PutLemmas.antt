@@ -1,7 +1,7 @@
 -- What the third statement leaves.
 use Rattle.std.proofs.Common.{◌≡◌, ◌⊎◌, inl, inr, ℕ, zero, suc, ℤ, ◌==◌, ◌&&◌, ◌||◌, not, pos, negsuc, List, [], ◌∷◌, ◌++◌, map, Bool, true, false, cond, Some, None, Option, Ok, Err, Result, OnOk, refl, sym, ap, ap₂, subst, ◌∙◌, true≢false, Less, Equal, Greater, Ordering, nat_cmp, int_cmp, is_eq, arith}
 use Rattle.std.specs.Prelude.{filter, ◌+ℤ◌}
-use Rattle.std.specs.List.{list_all, list_any, AllByRecursion, fold}
+use Rattle.std.specs.List.{AllByRecursion, fold}
 use Rattle.std.specs.Cmp.{both_ways}
 use Rattle.sqlite_value.specs.declared.keys.Key.{Key}
 use Rattle.std.specs.Cmp.Lexicographic.{slice_cmp}
@@ -10,19 +10,19 @@ use Rattle.std.proofs.lemmas.Cmp.{int_cmp_total, nat_list_cmp_total}
 use Rattle.sqlite_value.specs.declared.value.Value.{Value}
 use Rattle.sqlite_value.specs.declared.value.Value.TheVariants.{Null, Int, Blob}
 use Rattle.sqlite_value.specs.declared.keys.Collation.TheVariants.{Binary}
-use Rattle.sqlite_value.specs.Keys.{plain, first_key, ascending}
-use Rattle.sqlite_value.specs.Order.{Row, value_cmp}
+use Rattle.sqlite_value.specs.Keys.{plain, first_key}
+use Rattle.sqlite_value.specs.Order.{Row}
 use Rattle.sqlite_value.proofs.OrderLemmas.{value_cmp-Int, value_cmp-Blob}
 use Rattle.sqlite_value.proofs.KeyLemmas.{first_key-plain}
 use Rattle.sqlite.specs.Term.{Term, lit, col}
 use Rattle.sqlite.specs.Ops.{unary}
 use Rattle.sqlite_sql.specs.declared.ops.CompareOp.TheVariants.{Eq}
-use Rattle.sqlite_schema.specs.Rules.{agree, equal}
+use Rattle.sqlite_schema.specs.Rules.{equal}
 use Rattle.sqlite_schema.specs.declared.schema.Keys.{Keys}
 use Rattle.sqlite.specs.Kind.TheVariants.{Integer}
 use Rattle.sqlite.specs.Cast.{cast, cast_row}
 use Rattle.sqlite.specs.Tree.{Trees, rowid, put_row}
-use Rattle.sqlite.specs.Edit.{Edit, edit_of, edited, without_all, id_in, next_rowid, with_rowid}
+use Rattle.sqlite.specs.Edit.{edit_of, edited, without_all, id_in, next_rowid, with_rowid}
 use Rattle.sqlite.specs.Rowids.TheVariants.{Given, Chosen}
 use Rattle.sqlite_rules.specs.Calls.{ids_of}
 use Rattle.sqlite_rules.specs.Keys.{AreConflicts, conflicts}
@@ -32,11 +32,11 @@ use Rattle.sqlite_rules.specs.declared.error.Refusal.{Refusal}
 use Rattle.sqlite_schema.specs.declared.command.Conflict.TheVariants.{Replace}
 use Rattle.sqlite.specs.Source.TheVariants.{Values}
 use Rattle.sqlite.specs.Command.TheVariants.{InsertOr}
-use Rattle.sqlite.specs.Rows.{Written, Task, Puts, Clears, Upserts, Judged, Tries, TriesEach, nothing, count_of, mended}
+use Rattle.sqlite.specs.Rows.{Written, Task, Puts, Clears, Judged, Tries, TriesEach, nothing, count_of, mended}
 use Rattle.sqlite.specs.Does.{Tally, Does}
 use Rattle.sqlite.specs.Effect.{Database}
 use Rattle.sqlite.specs.declared.error.Error.{Error}
-use Rattle.sqlite.specs.State.{State, mode_of, Writes, Executes}
+use Rattle.sqlite.specs.State.{State, mode_of, Executes}
 use Rattle.sqlite.specs.Listing.{understood}
 use Rattle.sqlite.proofs.Callers.{statement_of, runs_as, one_step}
 use Rattle.sqlite_catalog.proofs.LayoutLemmas.{ascending_filter}
@@ -44,7 +44,7 @@ use Rattle.sqlite_catalog.proofs.ListFacts.{ascending_push}
 use Rattle.std.specs.Ordering.{ordering_reverse}
 use Rattle.cell_table.specs.Cells.{cells, by_key, cells_schema, Entry, row_of, is_at, others, Rises, Holds}
 use Rattle.cell_table.proofs.TextLemmas.{put_text, put_is, put_plain}
-use Rattle.cell_table.proofs.FloorLemmas.{test_is, eq_is, and_true}
+use Rattle.cell_table.proofs.FloorLemmas.{test_is, eq_is}
 use Rattle.cell_table.proofs.DeleteLemmas.{has_id, is_gone, without_all_is, same_filter, tells, own_id, any_map, rises_kept, went, same_value}
 
 abbrev pub three : ℕ → List ℕ → List ℕ → Row

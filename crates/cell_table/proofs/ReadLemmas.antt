@@ -1,5 +1,5 @@
 -- From the greatest cell at or below a key to the cell of that key.
-use Rattle.std.proofs.Common.{◌≡◌, ◌⊎◌, inl, inr, ℕ, ◌==◌, ◌&&◌, List, [], ◌∷◌, Bool, true, false, cond, Some, None, Option, Vec, Global, Ok, Err, Result, IfOk, slice_get, refl, sym, ap, ap₂, subst, subst₂, ◌∙◌, true≢false, All, Less, Equal, Greater, Ordering, nat_cmp, is_eq, is_le}
+use Rattle.std.proofs.Common.{◌≡◌, ◌⊎◌, inl, inr, ℕ, ◌==◌, ◌&&◌, List, [], ◌∷◌, Bool, true, false, cond, Some, None, Option, Vec, Global, Ok, Err, Result, IfOk, slice_get, refl, sym, ap, subst, subst₂, ◌∙◌, true≢false, All, Less, Equal, Greater, Ordering, nat_cmp, is_eq, is_le}
 use Rattle.std.specs.Prelude.{Contains, find, option_map}
 use Rattle.std.specs.List.{AllByRecursion}
 use Rattle.std.specs.Ordering.{ordering_reverse}
@@ -15,7 +15,7 @@ use Rattle.sqlite.specs.declared.error.Error.{Error}
 use Rattle.sqlite_value.specs.declared.value.Value.TheVariants.{Blob}
 use Rattle.sqlite_value.specs.Order.{Row}
 use Rattle.sqlite_rules.specs.Lists.{Has}
-use Rattle.sqlite_rules.proofs.ListLemmas.{has_contained, contains_had, has_found, all_has}
+use Rattle.sqlite_rules.proofs.ListLemmas.{has_contained, contains_had, all_has}
 use Rattle.cell_table.proofs.DeleteLemmas.{own_id}
 use Rattle.cell_table.specs.Cells.{Entry, is_at, is_below, is_up_to, look, AreApart, IsFloor, Holds}
 

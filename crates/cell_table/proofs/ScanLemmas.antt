@@ -1,5 +1,5 @@
 -- What the second statement answers.
-use Rattle.std.proofs.Common.{◌≡◌, ℕ, ◌+◌, ◌<◌, ◌==◌, ◌&&◌, pos, List, [], ◌∷◌, ◌++◌, map, length, get_or, Bool, true, false, cond, Some, None, Ok, Err, Result, refl, sym, ap, ap₂, subst, subst₂, ◌∙◌, arith, take, drop, Less, Equal, Greater, Ordering, nat_cmp, int_cmp, is_eq, is_lt, is_le, is_ge}
+use Rattle.std.proofs.Common.{◌≡◌, ℕ, ◌+◌, ◌<◌, ◌==◌, ◌&&◌, pos, List, [], ◌∷◌, ◌++◌, map, length, get_or, Bool, true, false, cond, refl, sym, ap, ap₂, subst, subst₂, ◌∙◌, take, nat_cmp, is_eq, is_lt, is_ge}
 use Rattle.std.specs.Prelude.{filter, flat_map, IsSorted, IsPermutation}
 use Rattle.std.specs.List.{list_all, swap}
 use Rattle.std.specs.Prelude.{slice_set}

@@ -1,5 +1,5 @@
 -- The table of cells.
-use Rattle.std.specs.Prelude.{◌≡◌, ◌&&◌, ◌==◌, ◌++◌, MatchOption, option_map, find, IsPermutation, IsSorted, take, not, map, filter, Bool, true, false, None, Some, Option, [], ◌∷◌, codes, List, ℕ, ℤ, pos, IsTrue, All, Contains}
+use Rattle.std.specs.Prelude.{◌≡◌, ◌&&◌, ◌==◌, ◌++◌, MatchOption, option_map, find, IsPermutation, IsSorted, take, not, map, filter, Bool, true, false, None, Option, [], ◌∷◌, codes, List, ℕ, ℤ, pos, All, Contains}
 use Rattle.std.specs.Ordering.{is_le, is_ge, is_eq, nat_cmp, int_cmp}
 use Rattle.std.specs.declared.cmp.Ordering.TheVariants.{Less}
 use Rattle.sqlite_trees.specs.Tree.{IsAscending}

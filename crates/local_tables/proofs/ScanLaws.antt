@@ -39,7 +39,7 @@ use Rattle.global_tables.proofs.Least.{number_least, empty_least, name_least}
 use Rattle.global_tables.proofs.Rising.{Rising, rising_append, rising_filter, rising_front, rising_across, rising_map_in, same_rising, in_left, in_right, in_either, in_filter, from_filter}
 use Rattle.local_tables.specs.Altering.{alters, altered, begins_past, first_map, is_old_of, is_past, is_past_hull}
 use Rattle.local_tables.specs.Resolving.{is_marked}
-use Rattle.local_tables.specs.Scanning.{piece_size, altered_of, altered_in, GoesOn, LeavesLast, TakesRows, is_before, IsUpTo, Lists}
+use Rattle.local_tables.specs.Scanning.{piece_size, altered_of, altered_in, LeadsOn, LeavesLast, TakesRows, is_before, IsUpTo, Lists}
 use Rattle.local_tables.specs.declared.altering.Work.{Work}
 use Rattle.local_tables.specs.declared.altering.Work.TheVariants.{ToMark, ToUndo, ToSettle}
 use Rattle.local_tables.proofs.BelowRows.{local_order}
@@ -182,7 +182,7 @@ module _ (work : Work) (op : Op) where
 
 -- what is taken of a full piece
 pub takes : (work : Work) (op : Op) (found : List Cell) (olds news : List LocalRow) (last : Cell) → piece_size ≤ length found → last ≡ get_or found (length found - 1) last → news ≡ olds ++ altered_in work op (take (length found - 1) found)
-    → (r : Result (Option CellKey) StepFault) → IfOk r (λ next. (row : LocalRow) × (last ≡ cell.Local row) × GoesOn work op row next) → IfOk r (λ next. TakesRows work op found olds news next)
+    → (r : Result (Option CellKey) StepFault) → IfOk r (λ next. (row : LocalRow) × (last ≡ cell.Local row) × LeadsOn work op row next) → IfOk r (λ next. TakesRows work op found olds news next)
 takes work op found olds news last full is taken (Err e) h = tt
 takes work op found olds news last full is taken (Ok next) h = by next h.2
   where
@@ -198,7 +198,7 @@ takes work op found olds news last full is taken (Ok next) h = by next h.2
       taken = taken;
     }
 
-    by : (next : Option CellKey) → GoesOn work op h.0 next → TakesRows work op found olds news next
+    by : (next : Option CellKey) → LeadsOn work op h.0 next → TakesRows work op found olds news next
     by None g = inr (leaves, g)
     by (Some k) g = (leaves, g)
 

@@ -42,9 +42,9 @@ TakesRows work op found olds news None =
 TakesRows work op found olds news (Some next) = (leaves : LeavesLast work op found olds news) × (next ≡ own_key (cell.Local leaves.last))
 
 -- where the next piece begins after this row
-abbrev pub GoesOn : Work → Op → LocalRow → Option CellKey → Type 0
-GoesOn work op last None = is_past work op last ≡ true
-GoesOn work op last (Some next) = next ≡ own_key (cell.Local last)
+abbrev pub LeadsOn : Work → Op → LocalRow → Option CellKey → Type 0
+LeadsOn work op last None = is_past work op last ≡ true
+LeadsOn work op last (Some next) = next ≡ own_key (cell.Local last)
 
 -- ---- the list
 

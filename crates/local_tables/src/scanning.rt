@@ -4,7 +4,7 @@ ghost use Rattle.cell_world.specs.Counts.{Rose};
 ghost use Rattle.cell_world.specs.Outside.{IsLater, IsSite, OfStore};
 ghost use Rattle.cell_world.specs.declared.cells.Cell.TheVariants as cell;
 ghost use Rattle.local_tables.specs.Altering.{altered};
-ghost use Rattle.local_tables.specs.Scanning.{GoesOn, IsUpTo, Lists, TakesRows, altered_in};
+ghost use Rattle.local_tables.specs.Scanning.{LeadsOn, IsUpTo, Lists, TakesRows, altered_in};
 
 use crate::altering::Work;
 use cell_world::cells::{Cell, CellKey, LocalRow, Site};
@@ -62,7 +62,7 @@ fn push_rows(work: Work, op: &Op, cells: &[Cell], rows: &mut Vec<LocalRow>) -> R
 
 /// The key from which on the next piece is scanned, after one that ends with this cell. `None`: no altered row is there.
 fn next_from(work: Work, op: &Op, last: &Cell) -> Result<Option<CellKey>, StepFault>
-    ensures next { IfOk result (λ next. (row : LocalRow) × (last.now ≡ cell.Local row) × GoesOn work op.now row next) }
+    ensures next { IfOk result (λ next. (row : LocalRow) × (last.now ≡ cell.Local row) × LeadsOn work op.now row next) }
     ensures memory { result ≡ Err StepFault.Store → ⊥ }
 {
     match LocalRow::read(last) {

@@ -1,5 +1,5 @@
 -- What stays between two events: no operation is logged, and the copy of the tables is what the global cells say.
-use Rattle.std.proofs.Common.{◌≡◌, ◌⊎◌, ⊎_elim, ℕ, ◌≤◌, Bool, true, false, refl, sym, ap, ◌∙◌, subst, arith, List, [], ◌∷◌, ◌++◌, length, take, Option, Some, None}
+use Rattle.std.proofs.Common.{◌≡◌, ◌⊎◌, ⊎_elim, ℕ, ◌≤◌, Bool, true, false, sym, ap, ◌∙◌, subst, arith, List, [], ◌∷◌, ◌++◌, take, None}
 use Rattle.std.specs.Prelude.{Result, Ok, Err}
 use Rattle.std.specs.FinMap as map
 use Rattle.std.proofs.lemmas.List.{take_all}
@@ -9,9 +9,7 @@ use Rattle.cell_world.specs.Texts.{Text}
 use Rattle.cell_world.specs.Stores.{Store, IsKeyed, changed}
 use Rattle.cell_world.specs.Images.{Image, Happening, Wrote, Trail, after_one, image_at, end_of_trail, extended, global}
 use Rattle.cell_world.specs.Outside.{Told, TellsNothing, TellsContents, TellsTrail, IfContents, TellsCells, told_after}
-use Rattle.cell_world.specs.declared.cells.Cell.{Cell}
 use Rattle.cell_world.specs.declared.cells.Cell.TheVariants as cell
-use Rattle.cell_world.specs.declared.cells.CellKey.{CellKey}
 use Rattle.cell_world.specs.declared.cells.CellKey.TheVariants as at
 use Rattle.cell_world.specs.declared.changes.Edit.{Edit}
 use Rattle.cell_world.specs.declared.changes.Edit.TheVariants.{Put, Delete}
@@ -24,9 +22,8 @@ use Rattle.plain_model.specs.OnTrail.{logs_put}
 use Rattle.plain_model.specs.ShortCommands.{short_commit}
 use Rattle.plain_model.specs.declared.commands.Command.{Command}
 use Rattle.plain_model.specs.declared.replies.Reply.{Reply}
-use Rattle.plain_model.specs.declared.replies.Reply.TheVariants as reply
 use Rattle.plain_model.proofs.Moments.{after_push}
-use Rattle.manager_core.specs.Answering.{NoLog, Relies, AnswersShort, IsCopy, KeepsCopy, WritesText}
+use Rattle.manager_core.specs.Answering.{NoLog, Relies, AnswersShort, IsCopy, WritesText}
 
 -- ---- one thing more
 

@@ -1,11 +1,11 @@
 -- An event leaves the core as it should.
 use Rattle.std.proofs.Common.{◌≡◌, ◌⊎◌, inl, inr, ⊎_elim, ℕ, ◌+◌, ◌≤◌, Bool, true, false, List, [], ◌∷◌, ◌++◌, length, take, drop, Option, Some, None, refl, sym, ap, ◌∙◌, subst, arith}
-use Rattle.std.specs.Prelude.{Result, Ok, Err, IsErrOf}
+use Rattle.std.specs.Prelude.{Result, Ok, Err}
 use Rattle.std.proofs.lemmas.List.{length_push, take-append-drop}
 use Rattle.cell_world.specs.Texts.{Text}
 use Rattle.cell_world.specs.Counts.{Rose}
 use Rattle.cell_world.specs.Images.{Image, Wrote, Trail, image_at, end_of_trail, extended, after_one}
-use Rattle.cell_world.specs.Plain.{PlainState, Connections, nobody, with_connections}
+use Rattle.cell_world.specs.Plain.{PlainState, nobody, with_connections}
 use Rattle.cell_world.specs.Meaning.{meaning}
 use Rattle.cell_world.specs.Sound.{Sound}
 use Rattle.cell_world.specs.Outside.{Outside, Told, TellsContents, TellsTrail, IfContents, IfTrail, IsLater, told_after}
@@ -24,17 +24,16 @@ use Rattle.plain_model.specs.Refusing.{refusal}
 use Rattle.plain_model.specs.Timelines.{Timeline, Happened, image_of, facts_of, happened_of, past_of}
 use Rattle.plain_model.specs.OnTrail.{logs_put}
 use Rattle.plain_model.specs.Legal.{IsPlanned, KeepsCounter, TriesNumber, MayHappen, is_job_running}
-use Rattle.plain_model.specs.Summary.{sort_of}
 use Rattle.plain_model.specs.Written.{Mode, EachReply}
 use Rattle.plain_model.specs.ShortCommands.{is_short, is_short_reply, short_commit, short_entry, standing_with, FollowsShort}
 use Rattle.plain_model.proofs.ShortCommands.{no_job_asked, promises_nothing, never_pending}
 use Rattle.plain_model.proofs.RunSoFar.{goes_on_same, goes_on_more, image_is, moment_is}
-use Rattle.session_laws.specs.Core.{Answers, Quiet}
-use Rattle.session_laws.specs.Contract.{Seen, at_rest, CoreOn, CoreGoesOn, KeepsCore, CoreTo, CoreGoesTo, KeepsCoreTo}
+use Rattle.session_laws.specs.Core.{Answers}
+use Rattle.session_laws.specs.Contract.{Seen, at_rest, CoreOn, CoreGoesOn, KeepsCore, CoreGoesTo, KeepsCoreTo}
 use Rattle.session_laws.proofs.ContractLaws.{core_wrote, core_answered, core_committed, core_entered_to}
-use Rattle.manager_core.specs.Answering.{NoLog, Relies, RefusesExactly, AnswersIn, AnswersAt, CommitsAt, CommitsShort, AnswersShort, IsCopy, KeepsCopy, WritesText}
+use Rattle.manager_core.specs.Answering.{NoLog, Relies, RefusesExactly, AnswersAt, CommitsAt, AnswersShort, IsCopy, KeepsCopy, WritesText}
 use Rattle.manager_core.specs.Cores.{IsReady}
-use Rattle.manager_core.specs.Events.{IsEntered, Parts, ReadyAt, Enters, stop_after}
+use Rattle.manager_core.specs.Events.{Parts, Enters, stop_after}
 use Rattle.manager_core.specs.declared.manager.StopCause.{StopCause}
 use Rattle.manager_core.proofs.Copies.{relies, copy_written, log_answered, log_written}
 

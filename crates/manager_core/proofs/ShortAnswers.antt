@@ -1,26 +1,21 @@
 -- What a command is answered follows from its plan.
 use Rattle.std.proofs.Common.{◌≡◌, ◌⊎◌, inl, inr, ⊎_elim, ℕ, Bool, true, false, refl, sym, ap, ◌∙◌, subst, List, [], Option, Some, None}
-use Rattle.cell_world.specs.Images.{Image, Global, after_one, global}
-use Rattle.cell_world.specs.Plain.{PlainState, Connections, nobody}
-use Rattle.cell_world.specs.Sound.{Sound}
-use Rattle.cell_world.specs.Stores.{Store, IsKeyed, changed}
-use Rattle.cell_world.specs.Outside.{Told, TellsNothing, TellsContents, TellsTrail, IfContents, told_after}
+use Rattle.cell_world.specs.Images.{Image, after_one}
+use Rattle.cell_world.specs.Outside.{Told, IfContents, told_after}
 use Rattle.cell_world.specs.declared.changes.Edit.{Edit}
 use Rattle.cell_world.proofs.ContentsLaws.{contents_all, contents_weaker}
-use Rattle.global_tables.specs.Known.{Known, known_of}
+use Rattle.global_tables.specs.Known.{Known}
 use Rattle.plain_model.specs.declared.commands.Command.{Command}
-use Rattle.plain_model.specs.declared.commands.Command.TheVariants as command
 use Rattle.plain_model.specs.declared.replies.Reply.{Reply}
 use Rattle.plain_model.specs.declared.replies.Reply.TheVariants as reply
 use Rattle.plain_model.specs.declared.replies.Refusal.{Refusal}
 use Rattle.plain_model.specs.OnTrail.{logs_put}
 use Rattle.plain_model.specs.Refusing.{refusal}
-use Rattle.plain_model.specs.ShortCommands.{is_short, is_short_answer, is_short_refusal, is_short_reply, short_commit, standing_with, IsShortChange, IsShortAnswer, IsRefusedWith}
+use Rattle.plain_model.specs.ShortCommands.{is_short, is_short_answer, is_short_refusal, short_commit, standing_with, IsShortChange, IsShortAnswer, IsRefusedWith}
 use Rattle.plain_model.proofs.ShortCommands.{short_done, short_refused, short_unmade, short_made, short_memory}
-use Rattle.cell_world.specs.declared.operations.Op.{Op}
 use Rattle.cell_world.specs.declared.operations.Reach.{Reach}
-use Rattle.map_ops.specs.Planning.{is_planned, NoneInWay}
-use Rattle.manager_core.specs.Answering.{NoLog, Relies, RefusesExactly, AnswersIn, AnswersAt, CommitsAt, AnswersShort, IsCopy, KeepsCopy}
+use Rattle.map_ops.specs.Planning.{NoneInWay}
+use Rattle.manager_core.specs.Answering.{NoLog, Relies, RefusesExactly, AnswersAt, CommitsAt, AnswersShort}
 
 -- where no operation is logged none is in the way
 pub none_in_way : (image : Image) (reached : Reach) → NoLog image → NoneInWay image reached

@@ -2,9 +2,8 @@
 use Rattle.std.specs.Prelude.{◌≡◌, ◌⊎◌, ℕ, Bool, true, List, [], ◌∷◌, ◌++◌, Option, Some, None, if◌then◌else◌}
 use Rattle.cell_world.specs.Texts.{Text}
 use Rattle.cell_world.specs.Counts.{Rose}
-use Rattle.cell_world.specs.Images.{Image}
 use Rattle.cell_world.specs.Plain.{nobody}
-use Rattle.cell_world.specs.Outside.{Outside, Told, IfContents}
+use Rattle.cell_world.specs.Outside.{Outside, IfContents}
 use Rattle.global_tables.specs.Known.{Known}
 use Rattle.map_ops.specs.Planning.{is_planned}
 use Rattle.plain_model.specs.declared.commands.Command.{Command}
@@ -16,8 +15,7 @@ use Rattle.plain_model.specs.Refusing.{refusal}
 use Rattle.plain_model.specs.Summary.{sort_of}
 use Rattle.plain_model.specs.ShortCommands.{standing_with}
 use Rattle.plain_model.specs.Written.{EachReply}
-use Rattle.session_laws.specs.Doing.{Doing, Resting}
-use Rattle.session_laws.specs.Contract.{Seen, at_rest, KeepsCore, KeepsCoreTo}
+use Rattle.session_laws.specs.Contract.{at_rest, KeepsCore, KeepsCoreTo}
 use Rattle.manager_core.specs.declared.manager.Event.{Event}
 use Rattle.manager_core.specs.declared.manager.Event.TheVariants as event
 use Rattle.manager_core.specs.declared.manager.Outcome.{Outcome}

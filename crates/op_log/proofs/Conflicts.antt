@@ -2,8 +2,7 @@
 use Rattle.std.proofs.Common.{◌≡◌, Bool, true, false, refl, sym, ap, ◌∙◌, subst, true≢false, ◌&&◌}
 use Rattle.std.specs.Prelude.{IsTrue}
 use Rattle.std.proofs.lemmas.Bool.{and_from, and_parts}
-use Rattle.cell_world.specs.Texts.{Text}
-use Rattle.cell_world.specs.Keys.{same, contains, overlaps, greater, low_of}
+use Rattle.cell_world.specs.Keys.{same, overlaps}
 use Rattle.cell_world.specs.Images.{Image, global}
 use Rattle.cell_world.specs.Lawful.{Lawful}
 use Rattle.cell_world.specs.Operations.{conflicts, reach_of}
@@ -13,7 +12,6 @@ use Rattle.cell_world.specs.declared.operations.Op.{Op}
 use Rattle.cell_world.specs.declared.operations.Piece.{Piece}
 use Rattle.cell_world.specs.declared.operations.Reach.{Reach}
 use Rattle.cell_world.specs.declared.operations.Reach.TheVariants as reach
-use Rattle.cell_world.specs.declared.spans.Span.{Span}
 use Rattle.cell_world.proofs.SpanLaws.{same_is, same_self, overlaps_comm}
 use Rattle.image_laws.proofs.CatalogLaws.{catalog_keeps_sound}
 use Rattle.image_laws.proofs.CatalogCommits.{unshard_keeps_sound}

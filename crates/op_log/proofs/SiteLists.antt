@@ -1,16 +1,13 @@
 -- How the sites of an operation are gathered.
 use Rattle.std.proofs.Common.{◌≡◌, ◌≢◌, ◌⊎◌, Bool, true, false, cond, refl, sym, ap, ◌∙◌, subst, Some, None, Option, inl, inr, List, [], ◌∷◌, ◌++◌, ◌||◌}
-use Rattle.std.specs.Prelude.{IfSome, IsSome, option_to_list, ◌↔◌}
+use Rattle.std.specs.Prelude.{◌↔◌}
 use Rattle.std.specs.List.{list_any}
-use Rattle.std.proofs.lemmas.Bool.{cases_Bool}
-use Rattle.std.proofs.lemmas.Option.{same_Some, none-some}
+use Rattle.std.proofs.lemmas.Option.{same_Some}
 use Rattle.cell_world.specs.Texts.{Text}
 use Rattle.cell_world.specs.Lists.{IsOneOf}
-use Rattle.cell_world.specs.Keys.{same, is_among}
-use Rattle.cell_world.specs.Spelled.{listed}
+use Rattle.cell_world.specs.Keys.{same}
 use Rattle.cell_world.specs.Operations.{locations_of}
 use Rattle.cell_world.specs.declared.operations.Piece.{Piece}
-use Rattle.cell_world.proofs.ListLaws.{one_of_two, in_first, in_second}
 use Rattle.cell_world.proofs.SpanLaws.{same_is, same_self}
 use Rattle.op_log.specs.Sites.{locations_in, with_next, with_site, with_sites, AreInOrder, AreAtMostTwo}
 use Rattle.op_log.specs.declared.sites.Sites.{Sites}

@@ -1,5 +1,5 @@
 -- A lawful operation has at most two sites.
-use Rattle.std.proofs.Common.{◌≡◌, ◌⊎◌, true, false, not, refl, sym, ap, ◌∙◌, subst, Some, None, Option, inl, inr, List, [], ◌∷◌, ◌++◌}
+use Rattle.std.proofs.Common.{◌≡◌, ◌⊎◌, true, not, refl, sym, ap, ◌∙◌, subst, Some, None, Option, inl, inr, List, [], ◌∷◌, ◌++◌}
 use Rattle.std.proofs.lemmas.Bool.{and_from}
 use Rattle.std.proofs.lemmas.Option.{same_Some}
 use Rattle.cell_world.specs.Texts.{Text}
@@ -14,7 +14,6 @@ use Rattle.cell_world.specs.Sound.{Sound, HasJob, AreMappings, front_of}
 use Rattle.cell_world.specs.declared.operations.Piece.{Piece}
 use Rattle.cell_world.specs.declared.operations.Op.{Op}
 use Rattle.cell_world.specs.declared.operations.JobRow.{JobRow}
-use Rattle.cell_world.specs.declared.operations.Extra.{Extra}
 use Rattle.cell_world.specs.declared.operations.Extra.TheVariants as extra
 use Rattle.cell_world.specs.declared.operations.Phase.TheVariants.{Idle}
 use Rattle.cell_world.specs.declared.spans.High.TheVariants.{At}

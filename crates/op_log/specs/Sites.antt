@@ -1,5 +1,5 @@
 -- The sites of an operation as at most two locations.
-use Rattle.std.specs.Prelude.{◌≡◌, ◌⊎◌, Bool, List, [], ◌∷◌, ◌++◌, Option, Some, None, option_to_list, IfSome, IsSome, if◌then◌else◌}
+use Rattle.std.specs.Prelude.{◌≡◌, ◌⊎◌, List, [], ◌∷◌, ◌++◌, Option, Some, None, option_to_list, IfSome, IsSome, if◌then◌else◌}
 use Rattle.cell_world.specs.Texts.{Text}
 use Rattle.cell_world.specs.Keys.{same}
 use Rattle.cell_world.specs.Lists.{IsOneOf}

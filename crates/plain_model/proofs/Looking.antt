@@ -1,11 +1,10 @@
 -- How what looks ahead goes on, and which numbers are open.
 use Rattle.std.proofs.Common.{◌≡◌, refl, sym, subst, Some, List, [], ◌∷◌, ◌++◌}
 use Rattle.cell_world.specs.Images.{Happening, Committed, Wrote, Reopened}
-use Rattle.cell_world.specs.declared.operations.Op.{Op}
 use Rattle.plain_model.specs.declared.replies.Reply.TheVariants as reply
 use Rattle.plain_model.specs.declared.history.Entry.{Entry}
 use Rattle.plain_model.specs.Timelines.{Timeline, Happened, Entered, history_of}
-use Rattle.plain_model.specs.OnTrail.{logs_put, tried_by}
+use Rattle.plain_model.specs.OnTrail.{tried_by}
 use Rattle.plain_model.specs.Legal.{AllGoing, Promises, AllNamedNext, AreNamed}
 use Rattle.plain_model.specs.GoingOn.{GoesOn, NamesOperations}
 use Rattle.plain_model.specs.RunSoFar.{Looks, nothing_going}

@@ -1,7 +1,7 @@
 -- What a set answers is what its finite set answers.
-use Rattle.std.proofs.Common.{◌≡◌, ℕ, Bool, true, false, cond, List, [], ◌∷◌, ◌&&◌, ◌||◌, not, map, refl, sym, ap, ◌∙◌, Option, Some, None, is_some}
+use Rattle.std.proofs.Common.{◌≡◌, Bool, true, false, cond, List, [], ◌∷◌, ◌&&◌, ◌||◌, not, refl, sym, ap, ◌∙◌, Option, Some, None, is_some}
 use Rattle.std.specs.FinMap as fin
-use Rattle.std.specs.FinMap.{FinMap, find, IsAntisymmetric}
+use Rattle.std.specs.FinMap.{find, IsAntisymmetric}
 use Rattle.std.specs.FinSet as set
 use Rattle.std.specs.Map.{keys_of}
 use Rattle.std.specs.List.{list_any, filter}

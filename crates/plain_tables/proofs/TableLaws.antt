@@ -1,15 +1,13 @@
 -- What a table answers is what its finite map answers.
-use Rattle.std.proofs.Common.{◌≡◌, ℕ, Bool, true, false, cond, List, [], ◌∷◌, ◌&&◌, map, length, refl, sym, ap, ◌∙◌, subst, Option, Some, None, option_map, IsTrue, arith}
+use Rattle.std.proofs.Common.{◌≡◌, cond, List, [], ◌∷◌, ◌&&◌, length, refl, sym, ap, ◌∙◌, Some, None, arith}
 use Rattle.std.specs.FinMap as fin
-use Rattle.std.specs.FinMap.{FinMap, find, put, IsAntisymmetric}
-use Rattle.std.specs.Map.{lookup, keys_of, values_of}
+use Rattle.std.specs.FinMap.{find, put, IsAntisymmetric}
+use Rattle.std.specs.Map.{lookup, keys_of}
 use Rattle.std.specs.BTreeMap.{BTreeMap, get, IsOrdered, IsUnchanged, Updates, is_at}
 use Rattle.std.specs.Cmp.{IsTotalOrder, eq_by_cmp_equiv}
-use Rattle.std.specs.Ordering.{eq_by_cmp, is_eq}
+use Rattle.std.specs.Ordering.{eq_by_cmp}
 use Rattle.std.specs.List.Sorted.{IsStrictlySortedBy}
-use Rattle.std.specs.List.{AllByRecursion}
 use Rattle.std.specs.declared.cmp.Ordering.{Ordering}
-use Rattle.std.specs.declared.cmp.Ordering.TheVariants.{Less, Equal, Greater}
 use Rattle.plain_tables.specs.Tables.{table}
 
 module _ {K X : Type 0} (R : K → K → Ordering) where

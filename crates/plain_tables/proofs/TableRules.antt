@@ -1,5 +1,5 @@
 -- The laws of tables and sets at the orders that the program has.
-use Rattle.std.proofs.Common.{◌≡◌, ℕ, Option, List, length, ap, ◌∙◌}
+use Rattle.std.proofs.Common.{◌≡◌, ℕ, length, ap, ◌∙◌}
 use Rattle.std.specs.FinMap as fin
 use Rattle.std.specs.FinSet as set
 use Rattle.std.specs.Ordering.{nat_cmp}
@@ -11,10 +11,10 @@ use Rattle.cell_world.specs.Texts.{Text}
 use Rattle.cell_world.specs.ByteOrder.{byte_cmp}
 use Rattle.cell_world.specs.Orders.{pair_cmp, row_cmp}
 use Rattle.cell_world.specs.declared.cells.RowName.{RowName}
-use Rattle.cell_world.proofs.OrderLaws.{pairs_total, rows_total, exact_texts, exact_text_pairs, exact_rows}
+use Rattle.cell_world.proofs.OrderLaws.{pairs_total, rows_total, exact_text_pairs}
 use Rattle.cell_world.specs.Members.{members}
 use Rattle.plain_tables.specs.Tables.{table, keys_in}
-use Rattle.plain_tables.proofs.TableLaws.{get-table, entries-table, insert-table, remove-table}
+use Rattle.plain_tables.proofs.TableLaws.{get-table, entries-table}
 use Rattle.plain_tables.proofs.SetLaws.{contains-keys_in, members-keys_in}
 
 module _ {X : Type 0} where

@@ -15,7 +15,7 @@ use Rattle.cell_world.specs.declared.operations.JobRow.{JobRow}
 use Rattle.cell_world.specs.declared.operations.Op.{Op}
 use Rattle.cell_world.specs.declared.cells.Cell.{Cell}
 use Rattle.cell_world.specs.declared.cells.Cell.TheVariants as cell
-use Rattle.record_form.specs.Reading.{◌>>=◌, Read, is_from, byte_at, both, pair, made, tagged, whole}
+use Rattle.record_form.specs.Reading.{◌>>=◌, is_from, made}
 use Rattle.record_form.specs.Layout.{text_bytes, piece_bytes, fields, spelling}
 use Rattle.record_form.specs.Fields.{name_at}
 use Rattle.record_form.specs.Kinds.{piece_at, op_at, job_at, local_at, map_cell_of, map_cell_at, shard_cell_of, shard_cell_at, table_cell_of, table_cell_at, piece_cell_of, piece_cell_at, counter_cell_of, counter_cell_at, site_state_cell_of, site_state_cell_at, row_cell_of, row_cell_at, fields_at, cell_of, cell_at}

@@ -1,7 +1,6 @@
 -- Fields of one value out of a few, tokens and marks are read exactly.
-use Rattle.std.proofs.Common.{◌≡◌, ℕ, zero, suc, ◌+◌, ◌^◌, ◌<◌, ◌≤◌, true, List, [], ◌∷◌, ◌++◌, Option, Some, None, refl, sym, ap, arith}
+use Rattle.std.proofs.Common.{◌≡◌, ℕ, zero, suc, ◌+◌, ◌^◌, ◌<◌, ◌≤◌, true, List, [], ◌∷◌, ◌++◌, Option, Some, None, refl, arith}
 use Rattle.std.specs.Prelude.{IfSome}
-use Rattle.std.specs.Int.{w64, w128, to_be_bytes}
 use Rattle.cell_world.specs.Spelled.{IsToken, IsMarkValue}
 use Rattle.cell_world.specs.declared.cells.KeyType.{KeyType}
 use Rattle.cell_world.specs.declared.cells.KeyType.TheVariants as type
@@ -14,7 +13,7 @@ use Rattle.cell_world.specs.declared.cells.Away.{Away}
 use Rattle.cell_world.specs.declared.cells.Away.TheVariants as away
 use Rattle.cell_world.specs.declared.cells.Mark.{Mark}
 use Rattle.cell_world.specs.declared.cells.Mark.TheVariants as mark
-use Rattle.record_form.specs.Reading.{is_from, nothing_at, byte_at, number_at, made}
+use Rattle.record_form.specs.Reading.{is_from}
 use Rattle.record_form.specs.Layout.{status_byte, map_kind_byte, key_type_byte, away_byte, token_bytes, mark_bytes}
 use Rattle.record_form.specs.Fields.{status_of, status_at, map_kind_of, map_kind_at, key_type_of, key_type_at, away_of, away_at, token_of, token_body_at, token_at, mark_body_at, mark_at}
 use Rattle.record_form.proofs.Readers.{IsReader, Tagged, tag, body, byte_reader, made_reader, nothing_reader, tagged_reader}

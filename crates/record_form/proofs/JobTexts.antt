@@ -10,7 +10,7 @@ use Rattle.cell_world.specs.declared.operations.Phase.TheVariants as phase
 use Rattle.cell_world.specs.declared.operations.JobRow.{JobRow}
 use Rattle.cell_world.specs.declared.operations.Extra.{Extra}
 use Rattle.cell_world.specs.declared.operations.Extra.TheVariants as extra
-use Rattle.record_form.specs.Reading.{is_from, nothing_at, number_at, pair, made}
+use Rattle.record_form.specs.Reading.{is_from}
 use Rattle.record_form.specs.Layout.{text_bytes, end_bytes, phase_bytes, job_bytes, extra_bytes}
 use Rattle.record_form.specs.Kinds.{phase_body_at, phase_at, course_at, job_at, extra_body_at, extra_at}
 use Rattle.record_form.specs.declared.jobs.JobCourse.{JobCourse}

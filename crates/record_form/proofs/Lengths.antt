@@ -1,12 +1,12 @@
 -- How long spellings are at most.
-use Rattle.std.proofs.Common.{◌≡◌, ℕ, ◌+◌, ◌≤◌, List, [], ◌∷◌, ◌++◌, length, take, Option, Some, None, refl, sym, ap, subst, ◌∙◌, arith}
+use Rattle.std.proofs.Common.{◌≡◌, ℕ, ◌+◌, ◌≤◌, List, [], ◌∷◌, ◌++◌, length, take, Option, Some, None, ap, ◌∙◌, arith}
 use Rattle.std.specs.Prelude.{IsTrue, IfSome}
 use Rattle.std.specs.Int.{w16, w32, w64, to_be_bytes}
 use Rattle.std.proofs.lemmas.Bool.{and_parts, leb-true}
 use Rattle.std.proofs.lemmas.List.{length-append, length-take-le}
 use Rattle.text_scan.specs.Places.{Leaves}
 use Rattle.cell_world.specs.Texts.{is_name, is_location, is_key_form, is_row_value, are_bytes}
-use Rattle.cell_world.specs.Spelled.{IsCell, IsEnd, IsSpan, IsToken, IsPiece, ArePieces, IsPhase, IsJob, IsExtra, IsOp}
+use Rattle.cell_world.specs.Spelled.{IsCell, IsEnd, IsSpan, IsPiece, IsPhase, IsJob, IsExtra, IsOp}
 use Rattle.cell_world.specs.declared.spans.High.{High}
 use Rattle.cell_world.specs.declared.spans.High.TheVariants.{At, Max}
 use Rattle.cell_world.specs.declared.spans.Span.{Span}

@@ -4,7 +4,7 @@ use Rattle.std.specs.Prelude.{IsTrue, IsSome}
 use Rattle.std.specs.Option.{SomeIff}
 use Rattle.std.specs.List.{list_all}
 use Rattle.std.proofs.lemmas.Bool.{and_parts, leb-true, le-leb, ltb-true, lt-ltb}
-use Rattle.cell_world.specs.Texts.{Text, is_letter, is_name_byte, is_name}
+use Rattle.cell_world.specs.Texts.{is_letter, is_name_byte, is_name}
 use Rattle.record_form.specs.Reading.{is_from, byte_at, text_at}
 use Rattle.record_form.specs.Layout.{text_bytes}
 use Rattle.record_form.specs.Fields.{name_next, name_at}

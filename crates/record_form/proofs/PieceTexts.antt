@@ -1,7 +1,6 @@
 -- Mappings and operations are read exactly.
-use Rattle.std.proofs.Common.{◌≡◌, ℕ, zero, suc, ◌+◌, ◌^◌, ◌<◌, ◌≤◌, Bool, true, false, ◌&&◌, List, [], ◌∷◌, ◌++◌, Option, Some, None, true≢false, refl, sym, ap, subst, ◌∙◌, append_assoc, arith}
-use Rattle.std.specs.Prelude.{IsTrue, IfSome}
-use Rattle.std.specs.Int.{w64, to_be_bytes}
+use Rattle.std.proofs.Common.{◌≡◌, ℕ, zero, suc, ◌+◌, ◌^◌, ◌<◌, ◌≤◌, true, false, ◌&&◌, List, [], ◌∷◌, ◌++◌, Option, Some, None, true≢false, refl, sym, ap, ◌∙◌, arith}
+use Rattle.std.specs.Prelude.{IsTrue}
 use Rattle.std.specs.List.{list_all}
 use Rattle.std.specs.Ordering.{is_eq}
 use Rattle.std.specs.declared.cmp.Ordering.{Ordering}
@@ -15,11 +14,10 @@ use Rattle.cell_world.specs.Texts.{Text, is_name}
 use Rattle.cell_world.specs.ByteOrder.{byte_cmp}
 use Rattle.cell_world.specs.Keys.{same}
 use Rattle.cell_world.specs.Spelled.{listed, has_first, IsSpan, IsPiece, ArePieces, IsExtra, IsOp}
-use Rattle.cell_world.specs.declared.spans.Span.{Span}
 use Rattle.cell_world.specs.declared.operations.Piece.{Piece}
 use Rattle.cell_world.specs.declared.operations.Pieces.{Pieces}
 use Rattle.cell_world.specs.declared.operations.Op.{Op}
-use Rattle.record_form.specs.Reading.{is_from, nothing_at, number_at, both, pair, made}
+use Rattle.record_form.specs.Reading.{is_from, both, pair}
 use Rattle.record_form.specs.Layout.{text_bytes, span_bytes, piece_bytes, pieces_bytes, extra_bytes, op_bytes}
 use Rattle.record_form.specs.Fields.{name_at, span_at}
 use Rattle.record_form.specs.Kinds.{piece_of, piece_at, no_piece, one_piece, two_pieces, pieces_body_at, pieces_at, exchange_at, op_at}

@@ -1,11 +1,11 @@
 -- Local rows, names of rows and values of rows are read exactly.
-use Rattle.std.proofs.Common.{◌≡◌, ℕ, zero, suc, ◌+◌, ◌*◌, ◌/◌, ◌%◌, ◌^◌, ◌<◌, ◌≤◌, true, false, List, [], ◌∷◌, ◌++◌, length, refl, sym, ap, ◌∙◌, inl, inr, arith}
+use Rattle.std.proofs.Common.{◌≡◌, ℕ, ◌+◌, ◌*◌, ◌/◌, ◌%◌, ◌^◌, ◌<◌, ◌≤◌, true, List, [], ◌∷◌, ◌++◌, length, refl, ap, ◌∙◌, inl, inr, arith}
 use Rattle.std.specs.Prelude.{IsTrue, ◌==◌, if◌then◌else◌}
-use Rattle.std.specs.Int.{w16, w64, to_be_bytes}
+use Rattle.std.specs.Int.{w16, to_be_bytes}
 use Rattle.std.proofs.lemmas.Bool.{cases_eq, and_parts, leb-true, le-leb, eq-eqb, ne_eqb}
-use Rattle.cell_world.specs.Texts.{Text, are_bytes, is_name, is_key_form, is_row_value}
-use Rattle.cell_world.specs.Spelled.{IsSpan, IsMarkValue, IsLocalRow, IsRowName}
-use Rattle.record_form.specs.Reading.{is_from, byte_at, raw_at, both}
+use Rattle.cell_world.specs.Texts.{are_bytes, is_row_value}
+use Rattle.cell_world.specs.Spelled.{IsLocalRow, IsRowName}
+use Rattle.record_form.specs.Reading.{is_from, byte_at, raw_at}
 use Rattle.record_form.specs.Layout.{local_bytes, row_name_bytes, row_value_bytes}
 use Rattle.record_form.specs.Fields.{value_length_at, row_value_at}
 use Rattle.record_form.specs.Kinds.{local_at, row_name_at}

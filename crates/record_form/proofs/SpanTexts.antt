@@ -1,5 +1,5 @@
 -- Keys, ends and spans are read exactly.
-use Rattle.std.proofs.Common.{◌≡◌, ℕ, zero, suc, ◌+◌, ◌<◌, ◌≤◌, true, List, [], ◌∷◌, ◌++◌, length, refl, sym, ap, arith}
+use Rattle.std.proofs.Common.{◌≡◌, ℕ, zero, suc, ◌+◌, ◌<◌, ◌≤◌, true, List, [], ◌∷◌, ◌++◌, length, refl, ap, arith}
 use Rattle.std.specs.Prelude.{IsTrue}
 use Rattle.std.proofs.lemmas.Bool.{and_parts, leb-true, le-leb}
 use Rattle.cell_world.specs.Texts.{Text, are_bytes, is_key_form}
@@ -8,7 +8,7 @@ use Rattle.cell_world.specs.declared.spans.High.{High}
 use Rattle.cell_world.specs.declared.spans.High.TheVariants.{At, Max}
 use Rattle.cell_world.specs.declared.spans.Span.{Span}
 use Rattle.cell_world.specs.declared.spans.Span.TheVariants.{Range, Point}
-use Rattle.record_form.specs.Reading.{is_from, nothing_at, byte_at, raw_at, pair, made}
+use Rattle.record_form.specs.Reading.{is_from, byte_at, raw_at}
 use Rattle.record_form.specs.Layout.{text_bytes, end_bytes, span_bytes}
 use Rattle.record_form.specs.Fields.{key_at, end_body_at, end_at, range_of, span_body_at, span_at}
 use Rattle.record_form.proofs.Readers.{IsReader, Tagged, tag, body, byte_reader, both_reader, pair_reader, made_reader, nothing_reader, tagged_reader}

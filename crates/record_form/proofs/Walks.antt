@@ -1,6 +1,6 @@
 -- Texts of a known length, a byte after the other.
-use Rattle.std.proofs.Common.{◌≡◌, ℕ, zero, suc, ◌+◌, List, [], ◌∷◌, ◌++◌, length, Option, Some, None, Result, Ok, Err, refl, sym, ap, subst, ◌∙◌, ◌⊎◌, arith, inl, inr}
-use Rattle.record_form.specs.Reading.{◌>>=◌, Read, text_at, then_byte}
+use Rattle.std.proofs.Common.{◌≡◌, ℕ, zero, suc, ◌+◌, List, [], ◌∷◌, ◌++◌, length, Option, Some, None, Ok, Err, refl, sym, ap, subst, ◌∙◌, ◌⊎◌, inl, inr}
+use Rattle.record_form.specs.Reading.{◌>>=◌, text_at, then_byte}
 use Rattle.record_form.proofs.Readers.{IsReader, Stops, bind_ok, bind_err, err_of, ok_is, not_both, head_is, tail_is, not_cons}
 
 -- ---- texts of a known length

@@ -1,6 +1,6 @@
 -- How the fields of cells are read.
-use Rattle.std.specs.Prelude.{ℕ, suc, ◌+◌, ◌*◌, List, [], ◌∷◌, Bool, ◌&&◌, ◌||◌, Option, Some, None, nat_lt, nat_le, ◌==◌, if◌then◌else◌}
-use Rattle.std.specs.Int.{w32, w64, w128}
+use Rattle.std.specs.Prelude.{ℕ, ◌+◌, ◌*◌, List, [], ◌∷◌, Bool, ◌&&◌, ◌||◌, Option, Some, None, nat_lt, nat_le, ◌==◌, if◌then◌else◌}
+use Rattle.std.specs.Int.{w64, w128}
 use Rattle.cell_world.specs.Texts.{Text, is_letter, is_digit, is_name_byte, is_part_byte}
 use Rattle.cell_world.specs.declared.spans.High.{High}
 use Rattle.cell_world.specs.declared.spans.High.TheVariants.{At, Max}
@@ -17,13 +17,6 @@ use Rattle.cell_world.specs.declared.cells.Away.{Away}
 use Rattle.cell_world.specs.declared.cells.Away.TheVariants as away
 use Rattle.cell_world.specs.declared.cells.Mark.{Mark}
 use Rattle.cell_world.specs.declared.cells.Mark.TheVariants as mark
-use Rattle.cell_world.specs.declared.operations.Piece.{Piece}
-use Rattle.cell_world.specs.declared.operations.Pieces.{Pieces}
-use Rattle.cell_world.specs.declared.operations.Phase.{Phase}
-use Rattle.cell_world.specs.declared.operations.Phase.TheVariants as phase
-use Rattle.cell_world.specs.declared.operations.JobRow.{JobRow}
-use Rattle.cell_world.specs.declared.operations.Extra.{Extra}
-use Rattle.cell_world.specs.declared.operations.Extra.TheVariants as extra
 use Rattle.record_form.specs.Reading.{Read, nothing_at, is_from, byte_at, number_at, raw_at, text_at, both, pair, made, tagged}
 use Rattle.record_form.specs.declared.names.InName.{InName}
 use Rattle.record_form.specs.declared.names.InName.TheVariants as name

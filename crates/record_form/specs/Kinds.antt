@@ -10,7 +10,6 @@ use Rattle.cell_world.specs.declared.cells.Status.{Status}
 use Rattle.cell_world.specs.declared.cells.Token.{Token}
 use Rattle.cell_world.specs.declared.cells.Away.{Away}
 use Rattle.cell_world.specs.declared.cells.Mark.{Mark}
-use Rattle.cell_world.specs.declared.cells.Counters.{Counters}
 use Rattle.cell_world.specs.declared.cells.LocalRow.{LocalRow}
 use Rattle.cell_world.specs.declared.cells.RowName.{RowName}
 use Rattle.cell_world.specs.declared.operations.Piece.{Piece}

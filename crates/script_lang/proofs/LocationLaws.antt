@@ -75,9 +75,9 @@ enough_are least taken are enough = record { spelled = are.spelled; distinct = a
 pub fewer : (least most : ℕ) (taken : List Text) → least ≤ most → AreLocations most taken → AreLocations least taken
 fewer least most taken few are = record { spelled = are.spelled; distinct = are.distinct; enough = let enough = are.enough in omega arith; few = are.few }
 
--- ---- a list goes on
+-- ---- a list can grow
 
-pub record GoesOn (least : ℕ) (taken : List Text) : Type 0 where
+pub record CanGrow (least : ℕ) (taken : List Text) : Type 0 where
   pub rest : List Text
   pub are : AreLocations least (taken ++ rest)
 
@@ -91,7 +91,7 @@ pub two_made : AreLocations 2 (first_made ∷ second_made ∷ [])
 two_made = enough_are 2 (first_made ∷ second_made ∷ []) (one_more (first_made ∷ []) second_made (one_more [] first_made nothing refl) refl) (omega arith)
 
 -- one of two made locations is always new
-one_behind : (x : Text) → AreLocations 0 (x ∷ []) → GoesOn 2 (x ∷ [])
+one_behind : (x : Text) → AreLocations 0 (x ∷ []) → CanGrow 2 (x ∷ [])
 one_behind x are =
     elim (cases_Bool (same first_made x)) [
       | inl first ↦
@@ -100,7 +100,7 @@ one_behind x are =
       | inr other ↦ record { rest = first_made ∷ []; are = enough_are 2 (x ∷ first_made ∷ []) (one_more (x ∷ []) first_made are (rw other refl)) (omega arith) }
     ]
 
-pub goes_on : (least : ℕ) (taken : List Text) → least ≤ 2 → AreLocations 0 taken → GoesOn least taken
+pub goes_on : (least : ℕ) (taken : List Text) → least ≤ 2 → AreLocations 0 taken → CanGrow least taken
 goes_on least [] few are = record { rest = first_made ∷ second_made ∷ []; are = fewer least 2 (first_made ∷ second_made ∷ []) few two_made }
 goes_on least (x ∷ []) few are = let more = one_behind x are in record { rest = more.rest; are = fewer least 2 (x ∷ more.rest) few more.are }
 goes_on least (x ∷ y ∷ taken) few are = record { rest = []; are = subst (AreLocations least) (sym (append-nil (x ∷ y ∷ taken))) (enough_are least (x ∷ y ∷ taken) are (omega arith)) }

@@ -15,7 +15,6 @@ use Rattle.script_lang.specs.declared.scripts.TheConstants.{BUILT}
 use Rattle.script_lang.specs.declared.scripts.ScriptFault.{ScriptFault}
 use Rattle.script_lang.specs.declared.scripts.ScriptFault.TheVariants as fault
 use Rattle.script_lang.specs.declared.verbs.Verb.{Verb}
-use Rattle.script_lang.specs.declared.verbs.Verb.TheVariants as verb
 use Rattle.script_lang.specs.Commands.{verb_word, word_kinds, verb_of, values_of, said_by}
 use Rattle.script_lang.specs.Values.{Value, OfNumber}
 use Rattle.script_lang.specs.WordKinds as kind

@@ -2,9 +2,8 @@
 use Rattle.std.proofs.Common.{◌≡◌, ◌≢◌, ◌⊎◌, inl, inr, ⊎_elim, ℕ, ◌+◌, ◌<◌, ◌≤◌, Bool, true, false, List, [], ◌∷◌, length, Option, Some, None, option_map, refl, sym, ap, ◌∙◌, subst, arith}
 use Rattle.std.specs.Bool.{MatchBool}
 use Rattle.cell_world.specs.Texts.{Text}
-use Rattle.cell_world.specs.Counts.{Rose, NeverFall, StoreRose, store_count, last_count}
-use Rattle.cell_world.specs.Images.{Image, Trail, image_at, end_of_trail, global}
-use Rattle.cell_world.specs.Keys.{is_among}
+use Rattle.cell_world.specs.Counts.{Rose, NeverFall, StoreRose, store_count}
+use Rattle.cell_world.specs.Images.{global}
 use Rattle.cell_world.specs.Outside.{Outside, Told, TellsNothing, TellsContents, TellsTrail, IfContents, IsLater, StoreRoseBy}
 use Rattle.cell_world.proofs.OutsideLaws.{later_same, later_then, store_rose_none, store_rose_one}
 use Rattle.plain_model.specs.declared.commands.Asked.{Asked}
@@ -12,10 +11,9 @@ use Rattle.plain_model.specs.declared.finish.Reason.{Reason}
 use Rattle.plain_model.specs.declared.finish.RunStatus.{RunStatus}
 use Rattle.plain_model.specs.declared.finish.RunStatus.TheVariants as status
 use Rattle.plain_model.specs.declared.history.Entry.{Entry}
-use Rattle.plain_model.specs.Summary.{replies_of, is_memory}
 use Rattle.plain_model.specs.Written.{EachReply}
-use Rattle.plain_model.specs.Headline.{is_done, Causes, StatusCause, ComesByInput, ComesByOpening, LeavesUnknown, TellsUnknown, IsUnknown, IsFirstUnknown, KeepsToStatus, StatusHasCause, EachOnceInOrder, EndsAnswered, ends_by_opening, ends_by_reading, faults, did_nothing}
-use Rattle.plain_model.specs.RunSoFar.{HoldsOnTrail, HoldsByStates, resting}
+use Rattle.plain_model.specs.Headline.{is_done, Causes, StatusCause, ComesByInput, ComesByOpening, TellsUnknown, StatusHasCause, EachOnceInOrder, faults, did_nothing}
+use Rattle.plain_model.specs.RunSoFar.{resting}
 use Rattle.plain_model.proofs.RunSoFar.{keeps_none, contents_none}
 use Rattle.plain_model.proofs.RunsAreHeadlines.{holds_on_trail, holds_by_states, is_headline, is_headline_alone}
 use Rattle.plain_runs.specs.PlainRuns.{IsPlainRun}

@@ -4,12 +4,9 @@ use Rattle.std.specs.Prelude.{IsSome}
 use Rattle.std.specs.List.{AllByRecursion}
 use Rattle.std.proofs.lemmas.List.{append_assoc, append-nil}
 use Rattle.cell_world.specs.Texts.{Text}
-use Rattle.cell_world.specs.Counts.{Rose}
 use Rattle.cell_world.specs.Images.{Image, Trail, image_at, end_of_trail}
-use Rattle.cell_world.specs.Sound.{Sound}
-use Rattle.cell_world.specs.Outside.{Outside, Told, TellsContents, TellsTrail, IfContents, IsLater, StoreRoseBy}
+use Rattle.cell_world.specs.Outside.{Told, TellsContents, TellsTrail, IfContents, IsLater, StoreRoseBy}
 use Rattle.cell_world.proofs.OutsideLaws.{later_same, later_then, store_rose_none, store_rose_one}
-use Rattle.global_tables.specs.Known.{Known}
 use Rattle.plain_model.specs.declared.commands.Asked.{Asked}
 use Rattle.plain_model.specs.declared.commands.Command.{Command}
 use Rattle.plain_model.specs.declared.finish.RunStatus.{RunStatus}
@@ -18,18 +15,16 @@ use Rattle.plain_model.specs.declared.replies.Reply.{Reply}
 use Rattle.plain_model.specs.declared.replies.Reply.TheVariants as reply
 use Rattle.plain_model.specs.declared.replies.Sort.{Sort}
 use Rattle.plain_model.specs.declared.replies.Sort.TheVariants as sort
-use Rattle.plain_model.specs.declared.history.Entry.{Entry}
 use Rattle.plain_model.specs.Refusing.{if_there}
 use Rattle.plain_model.specs.Summary.{replies_of, counts_as_refused, is_fault, is_memory, sort_of}
 use Rattle.plain_model.specs.Written.{EachReply}
 use Rattle.plain_model.specs.Headline.{faults, EndsAnswered, EndsWithMemory, has_stopped, is_done, did_nothing, StatusCause}
-use Rattle.plain_model.specs.RunSoFar.{EndsWritten, HoldsOnTrail, HoldsByStates}
+use Rattle.plain_model.specs.RunSoFar.{EndsWritten}
 use Rattle.plain_model.proofs.HistoryLaws.{ends_answered, replies_push, memory_last, memory_none}
 use Rattle.plain_model.proofs.RunsAreHeadlines.{ends_on_trail, ends_by_states}
 use Rattle.session_laws.specs.Contract.{at_rest, KeepsCore, KeepsCoreTo}
 use Rattle.session_laws.proofs.ContractLaws.{core_begins_on, core_begins_to, core_has_gone_on, core_has_gone_to, core_kept, core_kept_then, core_kept_to, core_kept_to_then}
 use Rattle.manager_core.specs.Answering.{NoLog, IsCopy}
-use Rattle.manager_core.specs.Cores.{IsReady}
 use Rattle.manager_core.specs.Events.{IsEntered, Parts, ReadyAt, Enters, Comes, ComesAfter, stop_after}
 use Rattle.manager_core.specs.declared.manager.Event.TheVariants as event
 use Rattle.manager_core.specs.declared.manager.Outcome.{Outcome}

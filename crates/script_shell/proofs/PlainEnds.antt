@@ -1,5 +1,5 @@
 -- A run that ended with status 0 or 1 is that of the plain step.
-use Rattle.std.proofs.Common.{◌≡◌, Bool, true, false, List, refl, sym, subst}
+use Rattle.std.proofs.Common.{◌≡◌, true, false, List, refl, subst}
 use Rattle.std.specs.List.{AllByRecursion}
 use Rattle.cell_world.specs.Images.{Image, Trail, image_at, end_of_trail}
 use Rattle.cell_world.specs.Outside.{Outside, Told, TellsNothing, TellsContents, TellsTrail, IfContents}

@@ -1,5 +1,5 @@
 -- The first location that the stores name and the world doesn't know is one.
-use Rattle.std.proofs.Common.{◌≡◌, Bool, true, false, Option, Some, None, refl, sym, ap, ◌∙◌, subst, List}
+use Rattle.std.proofs.Common.{◌≡◌, true, false, Option, Some, refl, sym, ap, ◌∙◌, subst, List}
 use Rattle.std.specs.Prelude.{IsSome}
 use Rattle.std.specs.Ordering.{is_gt, ordering_reverse}
 use Rattle.std.specs.declared.cmp.Ordering.{Ordering}
@@ -9,7 +9,6 @@ use Rattle.cell_world.specs.Images.{global, image_at, end_of_trail}
 use Rattle.cell_world.specs.Orders.{cell_cmp}
 use Rattle.cell_world.specs.Outside.{Outside, Told, TellsNothing, TellsContents, TellsTrail}
 use Rattle.cell_world.specs.Stores.{Store, own_key, cell_at}
-use Rattle.cell_world.specs.declared.cells.Cell.{Cell}
 use Rattle.cell_world.specs.declared.cells.CellKey.{CellKey}
 use Rattle.global_tables.proofs.PlaceLaws.{exact_keys}
 use Rattle.global_tables.proofs.CellOrder.{cell_total}

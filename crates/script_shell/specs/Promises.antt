@@ -18,8 +18,7 @@ use Rattle.plain_model.specs.Headline.{Manner, Causes, has_stopped, is_done, is_
 use Rattle.plain_model.specs.RunSoFar.{HoldsOnTrail, HoldsByStates}
 use Rattle.plain_runs.specs.PlainRuns.{is_plain, AreAnswersTo, IsPlainRun}
 use Rattle.script_lang.specs.declared.programs.Program.TheVariants.{Ctl}
-use Rattle.script_lang.specs.declared.command_line.Words.{Words}
-use Rattle.script_lang.specs.CommandLine.{options_built, SaysWords, IsAccepted, IsBadAt}
+use Rattle.script_lang.specs.CommandLine.{options_built, IsAccepted, IsBadAt}
 use Rattle.script_lang.specs.Scripts.{built, IsScript, IsFirstFaulty}
 use Rattle.script_lang.specs.Sources.{script_limit, IfTold, TookAtMost}
 use Rattle.manager_core.specs.Answering.{NoLog}

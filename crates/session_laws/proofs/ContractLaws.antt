@@ -1,29 +1,29 @@
 -- A core on its trail, and over contents alone: how it begins, that it goes on, and that it is a run.
-use Rattle.std.proofs.Common.{◌≡◌, ℕ, refl, sym, ap, ◌∙◌, subst, Some, None, Option, List, [], ◌∷◌, ◌++◌, false}
+use Rattle.std.proofs.Common.{◌≡◌, ℕ, refl, sym, ap, ◌∙◌, subst, Some, None, Option, [], ◌∷◌, ◌++◌, false}
 use Rattle.cell_world.specs.Texts.{Text}
 use Rattle.cell_world.specs.Images.{Image, Trail, Happening, Wrote, image_at, end_of_trail, extended, after_one}
 use Rattle.cell_world.specs.Plain.{Connections, with_connections}
 use Rattle.cell_world.specs.Meaning.{meaning}
 use Rattle.cell_world.specs.Sound.{Sound}
-use Rattle.cell_world.specs.Outside.{Told, TellsContents, TellsTrail}
+use Rattle.cell_world.specs.Outside.{Told}
 use Rattle.cell_world.specs.declared.operations.Op.{Op}
 use Rattle.plain_model.specs.declared.commands.Command.{Command}
 use Rattle.plain_model.specs.declared.history.Entry.{Entry}
 use Rattle.plain_model.specs.declared.replies.Reply.{Reply}
 use Rattle.plain_model.specs.declared.replies.Reply.TheVariants as reply
 use Rattle.plain_model.specs.JobSteps.{asked_number}
-use Rattle.plain_model.specs.Timelines.{Timeline, Happened, Entered, image_of}
+use Rattle.plain_model.specs.Timelines.{Happened, Entered, image_of}
 use Rattle.plain_model.specs.Follows.{Follows}
 use Rattle.plain_model.specs.Legal.{AllGoing, Promises, is_job_running}
 use Rattle.plain_model.specs.GoingOn.{IsOf}
 use Rattle.plain_model.specs.Written.{Mode}
 use Rattle.plain_model.specs.Running.{Running, text_of}
-use Rattle.plain_model.specs.RunSoFar.{RunsOn, HasGoneOn, RunsTo, HasGoneTo}
+use Rattle.plain_model.specs.RunSoFar.{RunsOn, HasGoneOn, HasGoneTo}
 use Rattle.plain_model.specs.ByMoments.{RunsByMoments}
 use Rattle.plain_model.proofs.RunsAtMoments.{runs_by_moments}
 use Rattle.plain_model.proofs.RunSoFar.{goes_on_same, goes_on_then, since_first, since_happened, since_entered}
 use Rattle.session_laws.specs.Doing.{Doing, Resting, Working, AllDoing, command_of, going_of, all_going, IsThen, doing_then}
-use Rattle.session_laws.specs.Core.{Core, OthersStand, CoreAlone, Answers, Leaves, Quiet}
+use Rattle.session_laws.specs.Core.{Core, OthersStand, Answers, Leaves, Quiet}
 use Rattle.session_laws.specs.Contract.{Seen, course_of, all_rest, at_rest, CoreOn, CoreGoesOn, KeepsCore, CoreTo, CoreGoesTo, KeepsCoreTo}
 use Rattle.session_laws.specs.Needs.{Needs}
 use Rattle.session_laws.proofs.CoreLaws.{core_begins, core_takes, core_writes, answers_alone, answers_with}

@@ -1,9 +1,9 @@
 -- How what looks ahead goes on.
-use Rattle.std.proofs.Common.{◌≡◌, ◌⊎◌, inl, inr, ⊎_elim, ℕ, Bool, true, false, cond, ◌||◌, ◌&&◌, not, refl, sym, ap, subst, Some, None, Option, List, [], ◌∷◌, ◌++◌, eqb, eq-eqb}
+use Rattle.std.proofs.Common.{◌≡◌, ◌⊎◌, inl, inr, ⊎_elim, ℕ, Bool, true, false, ◌||◌, ◌&&◌, not, refl, sym, subst, Some, Option, List, [], ◌∷◌, ◌++◌}
 use Rattle.std.specs.Prelude.{◌==◌}
 use Rattle.std.specs.List.{list_any}
 use Rattle.std.proofs.lemmas.Bool.{eqb-true}
-use Rattle.cell_world.specs.Images.{Place, Happening, Committed, Wrote, Reopened}
+use Rattle.cell_world.specs.Images.{Place, Committed, Wrote, Reopened}
 use Rattle.cell_world.specs.declared.operations.Op.{Op}
 use Rattle.cell_world.specs.declared.changes.Edit.{Edit}
 use Rattle.plain_model.specs.declared.replies.Reply.{Reply}
@@ -13,9 +13,8 @@ use Rattle.plain_model.specs.declared.history.Entry.{Entry}
 use Rattle.plain_model.specs.Timelines.{Timeline, Happened, Entered, history_of}
 use Rattle.plain_model.specs.OnTrail.{logs_put, logs, is_open}
 use Rattle.plain_model.specs.Legal.{Going, AllGoing, Promises, KeepsPromises, IsAtJob, IsAtOperation, next_of, next_answered, IsNamedNext, AllNamedNext, AreNamed}
-use Rattle.plain_model.specs.GoingOn.{GoesOn, TakesUp, NamesOperations, TriesNumbered, AreNumbered}
-use Rattle.plain_model.proofs.PromiseLaws.{promises_more, promises_stay, named_more, named_stay}
-use Rattle.plain_model.specs.OnTrail.{tried_by}
+use Rattle.plain_model.specs.GoingOn.{TakesUp, TriesNumbered, AreNumbered}
+use Rattle.plain_model.proofs.PromiseLaws.{promises_stay, named_stay}
 use Rattle.plain_model.specs.RunSoFar.{Looks}
 
 -- ---- a session takes something up

@@ -10,10 +10,10 @@ use Rattle.plain_model.specs.declared.commands.Command.{Command}
 use Rattle.plain_model.specs.declared.replies.Reply.{Reply}
 use Rattle.plain_model.specs.declared.history.Entry.{Entry}
 use Rattle.plain_model.specs.JobSteps.{asked_number, asked_job}
-use Rattle.plain_model.specs.Timelines.{Past, Timeline, image_of, facts_of, happened_of, history_of, past_of}
+use Rattle.plain_model.specs.Timelines.{Past, Timeline, image_of, facts_of, happened_of, past_of}
 use Rattle.plain_model.specs.Follows.{Follows}
 use Rattle.plain_model.specs.OnTrail.{OnTrail, WasTried, is_open, tried_by}
-use Rattle.plain_model.specs.Legal.{AllGoing, KeepsPromises, AreNamed, IsPlanned, IsPlannedIn, IsOwnOf, MayHappen}
+use Rattle.plain_model.specs.Legal.{KeepsPromises, IsPlanned, IsPlannedIn, IsOwnOf, MayHappen}
 use Rattle.plain_model.specs.GoingOn.{NamesOperations, TriesNumbered}
 use Rattle.plain_model.specs.RunSoFar.{Looks}
 use Rattle.plain_model.specs.Written.{Mode}

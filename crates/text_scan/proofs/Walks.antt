@@ -2,7 +2,7 @@
 use Rattle.std.proofs.Common.{◌≡◌, ℕ, ◌+◌, ◌<◌, Bool, false, List, [], ◌∷◌, ◌++◌, length, get_or, take, Option, Some, None, true≢false, refl, sym, ap, ◌∙◌, arith}
 use Rattle.std.specs.Prelude.{option_and_then, IsTrue}
 use Rattle.std.proofs.lemmas.List.{take_more, take_all}
-use Rattle.text_scan.specs.Places.{GoesOn, IsPlace}
+use Rattle.text_scan.specs.Places.{BeginsText, IsPlace}
 use Rattle.text_scan.specs.Walks.{walk, at_end, accepts}
 
 pub walk-append : {S : Type 0} (next : S → ℕ → Option S) (from : Option S) (xs ys : List ℕ) → walk next from (xs ++ ys) ≡ walk next (walk next from xs) ys
@@ -25,7 +25,7 @@ walk_more next from text i s lt at =
 
 -- from a state with a witness, the bytes so far go on
 goes_on : {S : Type 0} (next : S → ℕ → Option S) (is_end : S → Bool) (from : Option S) (front : List ℕ) (s : S) → walk next from front ≡ Some s
-    → ((more : List ℕ) × IsTrue (accepts next is_end (Some s) more)) → GoesOn (accepts next is_end from) front
+    → ((more : List ℕ) × IsTrue (accepts next is_end (Some s) more)) → BeginsText (accepts next is_end from) front
 goes_on next is_end from front s at live =
     (live.0, ap (at_end is_end) (walk-append next from front live.0 ∙ ap (λ p. walk next p live.0) at) ∙ live.1)
 

@@ -20,8 +20,8 @@ pub record Leaves (IsText : List ℕ → Type 0) (text : List ℕ) (place : ℕ)
 
 -- ---- where the grammar is a test on texts
 
-abbrev pub GoesOn : (List ℕ → Bool) → List ℕ → Type 0
-GoesOn grammar front = BeginsOne (λ text. IsTrue (grammar text)) front
+abbrev pub BeginsText : (List ℕ → Bool) → List ℕ → Type 0
+BeginsText grammar front = BeginsOne (λ text. IsTrue (grammar text)) front
 
 abbrev pub IsPlace : (List ℕ → Bool) → List ℕ → ℕ → Type 0
 IsPlace grammar text place = Leaves (λ text. IsTrue (grammar text)) text place

@@ -1,5 +1,5 @@
 -- What a world over `sqlite` tells: its counts.
-use Rattle.std.specs.Prelude.{◌≡◌, ℕ, ◌≤◌, List, [], ◌∷◌, All, Option, Some, None, option_map, unwrap_or, slice_get}
+use Rattle.std.specs.Prelude.{◌≡◌, ℕ, ◌≤◌, List, [], ◌∷◌, All, option_map, unwrap_or, slice_get}
 use Rattle.cell_world.specs.Texts.{Text}
 use Rattle.cell_world.specs.Outside.{Outside, TellsNothing}
 

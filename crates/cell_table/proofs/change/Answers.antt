@@ -1,5 +1,5 @@
-use Rattle.std.proofs.Common.{◌≡◌, refl, sym, ap, subst, arith, rules, true, IsTrue}
-use Rattle.sqlite.specs.State.{HasCleanDisk, KeepsCommit, IsRolledBack}
+use Rattle.std.proofs.Common.{◌≡◌, refl, ap, subst, arith, rules, IsTrue}
+use Rattle.sqlite.specs.State.{HasCleanDisk, KeepsCommit}
 use Rattle.sqlite.specs.Steps.{FailsToCommit}
 use Rattle.sqlite.specs.Held.{state}
 use Rattle.cell_table.proofs.ChangeLemmas.{undone_is, failed_is, always, on_failure}

@@ -1,6 +1,6 @@
-use Rattle.std.proofs.Common.{◌≡◌, List}
+use Rattle.std.proofs.Common.{◌≡◌}
 use Rattle.sqlite.specs.Held.{state}
-use Rattle.cell_table.specs.Cells.{Entry, Holds, others}
+use Rattle.cell_table.specs.Cells.{Holds, others}
 use Rattle.cell_table.proofs.DeleteLemmas.{deletes, for_each}
 use Rattle.cell_table.proofs.delete.Goals as goal
 

@@ -1,6 +1,6 @@
-use Rattle.std.proofs.Common.{◌≡◌, ℤ, List, [], ◌∷◌, ◌++◌, OnOk, refl}
+use Rattle.std.proofs.Common.{◌≡◌, List, [], ◌∷◌, ◌++◌}
 use Rattle.sqlite.specs.Held.{state}
-use Rattle.cell_table.specs.Cells.{Entry, Holds, others, IsMade}
+use Rattle.cell_table.specs.Cells.{Entry, Holds, IsMade}
 use Rattle.cell_table.proofs.DeleteLemmas.{for_each, deletes}
 use Rattle.cell_table.proofs.PutLemmas.{puts}
 use Rattle.cell_table.proofs.ChangeLemmas.{inside_stays, call_keeps, call_ran, made_none, made_some}

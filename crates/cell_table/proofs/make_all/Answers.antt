@@ -1,8 +1,6 @@
-use Rattle.std.proofs.Common.{◌≡◌, List, arith, ◌∙◌}
+use Rattle.std.proofs.Common.{◌≡◌, arith, ◌∙◌}
 use Rattle.sqlite.specs.Held.{state}
-use Rattle.sqlite.specs.State.{HasCleanDisk}
 use Rattle.sqlite.proofs.StateLemmas.{survives_then}
-use Rattle.cell_table.specs.Cells.{Entry, Holds, AreMade}
 use Rattle.cell_table.proofs.ChangeLemmas.{keeps_then, made_more}
 use Rattle.cell_table.proofs.make_all.Goals as goal
 

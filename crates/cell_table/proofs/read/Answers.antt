@@ -1,6 +1,5 @@
-use Rattle.std.proofs.Common.{◌≡◌, List, Some, None, sym, subst, slice_get, ap, ◌∙◌}
+use Rattle.std.proofs.Common.{◌≡◌, sym, slice_get, ap, ◌∙◌}
 use Rattle.sqlite.specs.Held.{state}
-use Rattle.cell_table.specs.Cells.{Entry, Holds, look}
 use Rattle.cell_table.proofs.ReadLemmas.{no_row, no_first, reads}
 use Rattle.cell_table.proofs.read.Goals as goal
 

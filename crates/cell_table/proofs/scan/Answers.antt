@@ -1,10 +1,9 @@
-use Rattle.std.proofs.Common.{◌≡◌, List, map, subst, sym}
+use Rattle.std.proofs.Common.{◌≡◌, subst, sym}
 use Rattle.std.proofs.lemmas.Result.{IfOk-weaker}
 use Rattle.sqlite.specs.Held.{state}
 use Rattle.sqlite.specs.Listing.{understood}
-use Rattle.sqlite.specs.State.{HasCleanDisk, Shown}
+use Rattle.sqlite.specs.State.{Shown}
 use Rattle.sqlite.proofs.Callers.{IsPlain}
-use Rattle.cell_table.specs.Cells.{Entry}
 use Rattle.cell_table.proofs.SameLemmas.{query_same}
 use Rattle.cell_table.proofs.TextLemmas.{scan_text, scan_plain}
 use Rattle.cell_table.proofs.ScanLemmas.{scans, paged}

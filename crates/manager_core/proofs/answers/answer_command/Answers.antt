@@ -1,7 +1,5 @@
 use Rattle.std.proofs.Common.{◌≡◌, ℕ, [], subst, sym}
 use Rattle.std.specs.Prelude.{Ok, Err}
-use Rattle.cell_world.specs.Images.{Image, global}
-use Rattle.cell_world.specs.Operations.{conflicts}
 use Rattle.cell_world.specs.Outside.{IfContents}
 use Rattle.cell_world.proofs.ContentsLaws.{contents_weaker}
 use Rattle.map_ops.specs.Planning.{PlansWith, IsShortPlan}
@@ -9,7 +7,7 @@ use Rattle.plain_model.specs.declared.plans.Plan.TheVariants as plan
 use Rattle.plain_model.specs.declared.plans.PlanStop.TheVariants as stop
 use Rattle.plain_model.specs.declared.replies.Reply.TheVariants as reply
 use Rattle.plain_model.specs.ShortCommands.{IsShortChange, IsShortAnswer, IsRefusedWith}
-use Rattle.manager_core.specs.Answering.{NoLog, Relies, AnswersShort}
+use Rattle.manager_core.specs.Answering.{Relies}
 use Rattle.map_ops.proofs.PlannedLaws.{planned_is_short}
 use Rattle.manager_core.proofs.ShortAnswers.{none_in_way, answers_fault, answers_refused, answers_answer, answers_either}
 use Rattle.manager_core.proofs.answers.answer_command.Goals as goal

@@ -2,9 +2,8 @@ use Rattle.std.proofs.Common.{◌≡◌, ◌∙◌, ap, subst, sym, ◌++◌}
 use Rattle.cell_world.specs.Lists.{IsOneOf}
 use Rattle.cell_world.specs.Operations.{locations_of, sites_of, sites_of_extra}
 use Rattle.cell_world.specs.Spelled.{listed}
-use Rattle.cell_world.specs.Texts.{Text}
 use Rattle.cell_world.specs.declared.operations.Op.{Op}
-use Rattle.op_log.specs.Sites.{AreAtMostTwo, AreInOrder, locations_in, with_sites}
+use Rattle.op_log.specs.Sites.{AreInOrder, locations_in, with_sites}
 use Rattle.op_log.specs.declared.sites.Sites.{Sites}
 use Rattle.op_log.proofs.SiteLists.{nowhere, with_sites-append, gathered_order, gathered_back, gathered_forth}
 use Rattle.op_log.proofs.sites.sites_of.Goals as goal

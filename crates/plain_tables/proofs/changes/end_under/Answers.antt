@@ -1,4 +1,4 @@
-use Rattle.std.proofs.Common.{◌≡◌, ℕ, List, map, ap, sym, ◌∙◌, rules, tests, Option}
+use Rattle.std.proofs.Common.{◌≡◌, ap, sym, ◌∙◌, rules, tests, Option}
 use Rattle.std.proofs.lemmas.Map.Made.{map_same_pairs}
 use Rattle.cell_world.specs.declared.operations.Piece.{Piece}
 use Rattle.plain_model.specs.Steps.{ended_under}

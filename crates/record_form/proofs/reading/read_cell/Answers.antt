@@ -1,4 +1,4 @@
-use Rattle.std.proofs.Common.{◌≡◌, ℕ, ◌-◌, ◌≤◌, length, arith}
+use Rattle.std.proofs.Common.{◌≡◌, ◌-◌, ◌≤◌, length, arith}
 use Rattle.text_scan.specs.Places.{Leaves}
 use Rattle.cell_world.specs.Spelled.{IsCell}
 use Rattle.record_form.specs.Layout.{spelling, IsSpelling}

@@ -1,4 +1,4 @@
-use Rattle.std.proofs.Common.{rules, arith, ◌≡◌, ◌-◌, get_or, Some, None, Ok, take, drop, ◌∙◌, refl}
+use Rattle.std.proofs.Common.{rules, arith, ◌≡◌, ◌-◌, get_or, Some, None, ◌∙◌, refl}
 use Rattle.std.proofs.lemmas.List.{append-nil}
 use Rattle.record_form.proofs.Loops.{goes_on, stops_at, ends_at, is_done}
 use Rattle.record_form.proofs.texts.text.Goals as goal

@@ -1,4 +1,4 @@
-use Rattle.std.proofs.Common.{◌≡◌, [], map, subst, ap, sym, ◌∙◌}
+use Rattle.std.proofs.Common.{◌≡◌, [], map, subst, sym, ◌∙◌}
 use Rattle.std.specs.String.{string_bytes}
 use Rattle.std.specs.List.{AllByRecursion}
 use Rattle.script_shell.specs.Promises.{Runs, RunsScript}

@@ -3,12 +3,11 @@ use Rattle.std.specs.Prelude.{Err}
 use Rattle.std.specs.String.{string_bytes}
 use Rattle.script_lang.specs.declared.programs.Program.TheVariants.{Ctl}
 use Rattle.script_lang.specs.declared.command_line.WordsFault.TheVariants as fault
-use Rattle.script_lang.specs.declared.scripts.ScriptFault.TheVariants as stop
 use Rattle.script_lang.specs.CommandLine.{options_built, IsAccepted, IsWordsFault}
-use Rattle.script_lang.specs.Scripts.{built, IsScript, IsScriptFault}
+use Rattle.script_lang.specs.Scripts.{built, IsScriptFault}
 use Rattle.plain_model.specs.declared.finish.RunStatus.TheVariants as status
 use Rattle.script_shell.specs.Reading.{StopsReading}
-use Rattle.script_shell.proofs.CallLaws.{bad_words, words_memory, read_fault, too_long, read_memory, bad_script, script_read}
+use Rattle.script_shell.proofs.CallLaws.{bad_words, words_memory, read_fault, too_long, read_memory, bad_script}
 use Rattle.script_shell.proofs.shell.script_of.Goals as goal
 
 pub returns-in-Err-At-clause-err : goal.returns-in-Err-At-clause-err

@@ -1,4 +1,4 @@
-use Rattle.std.proofs.Common.{subst, subst₂}
+use Rattle.std.proofs.Common.{subst}
 use Rattle.cell_table.specs.Cells.{AreMade}
 use Rattle.sqlite_site.specs.Held.{AreOpsOf}
 use Rattle.sqlite_site.proofs.OpLemmas.{edited_all}

@@ -1,5 +1,4 @@
-use Rattle.std.proofs.Common.{Some, ap, ◌∙◌, slice_get, subst}
-use Rattle.cell_table.specs.Cells.{IsFloor}
+use Rattle.std.proofs.Common.{ap, ◌∙◌, slice_get, subst}
 use Rattle.sqlite_site.specs.Entries.{IsCellOf}
 use Rattle.sqlite_site.proofs.RowLemmas.{last_some}
 use Rattle.sqlite_site.proofs.stored.last.Goals as goal

@@ -1,4 +1,4 @@
-use Rattle.std.proofs.Common.{◌≡◌, Bool, true, ◌&&◌, ap, sym, ◌∙◌}
+use Rattle.std.proofs.Common.{◌≡◌, Bool, true, ◌&&◌, ap, ◌∙◌}
 use Rattle.cell_world.specs.Keys.{same}
 use Rattle.cell_world.proofs.SpanLaws.{same_self}
 use Rattle.step_tests.proofs.shapes.splitting.Goals as goal

@@ -1,4 +1,4 @@
-use Rattle.std.proofs.Common.{◌≡◌, ◌<◌, ◌+◌, length, sym, subst, arith}
+use Rattle.std.proofs.Common.{◌≡◌, ◌<◌, ◌+◌, arith}
 use Rattle.world_sqlite.proofs.CountLaws.{keeps_counts, fails_with_rise, reopens_is, site_within}
 use Rattle.world_sqlite.proofs.world.SqliteWorldWorld.reopen.Goals as goal
 
