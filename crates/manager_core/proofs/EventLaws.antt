@@ -204,15 +204,15 @@ tries_once : (known : Known) (old new : Told) (c : Command) (r : Reply) → Answ
 tries_once known old new c r answers = ⊎_elim (λ same. inl same.0) (λ commits. inr (commits.change, commits.took, commits.told)) answers
 
 -- what the writing answered wrote
-written_by : (old new : Told) (text : Text) (result : Result (Unit {0}) WorldError) → WritesText old new text result → Option Text
-written_by old new text (Ok done) writes = Some text
-written_by old new text (Err error.Failed) writes = Some (take writes.0 text)
-written_by old new text (Err error.Memory) writes = None
+abbrev written_by : (old new : Told) (bytes : Text) (result : Result (Unit {0}) WorldError) → WritesText old new bytes result → Option Text
+written_by old new bytes (Ok done) writes = Some bytes
+written_by old new bytes (Err error.Failed) writes = Some (take writes.0 bytes)
+written_by old new bytes (Err error.Memory) writes = None
 
-writes_once : (old new : Told) (text : Text) (result : Result (Unit {0}) WorldError) (writes : WritesText old new text result) → WritesOnce (written_by old new text result writes) old new
-writes_once old new text (Ok done) writes = writes
-writes_once old new text (Err error.Failed) writes = writes.1
-writes_once old new text (Err error.Memory) writes = writes
+writes_once : (old new : Told) (bytes : Text) (result : Result (Unit {0}) WorldError) (writes : WritesText old new bytes result) → WritesOnce (written_by old new bytes result writes) old new
+writes_once old new bytes (Ok done) writes = writes
+writes_once old new bytes (Err error.Failed) writes = writes.1
+writes_once old new bytes (Err error.Memory) writes = writes
 
 module _ (tagged : Bool) (session : ℕ) (c : Command) (short : is_short c ≡ true) (r : Reply) (word : is_short_reply r ≡ true) (moment : ℕ) (old mid new : Outside) (known fresh : Known) (before history : List Entry) (stop : Option StopCause)
     (answers : AnswersShort known old.told mid.told c r) (now : IfTrail mid.told (λ trail. moment ≡ end_of_trail trail)) (added : history ≡ before ++ short_entry session c r moment ∷ [])
