@@ -1,5 +1,5 @@
 use Rattle.map_ops.proofs.PlanLaws.{told_always}
-use Rattle.map_ops.proofs.planning.plan.Goals as goal
+use Rattle.map_ops.proofs.short_plans.plan_short.Goals as goal
 
 pub returns-in-Map-clause-plans : goal.returns-in-Map-clause-plans
 returns-in-Map-clause-plans g c = told_always _ c.args.known.now _ c.args.command.now c.plan_map.result c.in-Map.is c.plan_map.ensures.plans
