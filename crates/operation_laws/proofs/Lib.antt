@@ -1,0 +1,9 @@
+pub mod Exchanges
+pub mod Standing
+pub mod Timelines
+pub mod CalmSteps
+pub mod CoreCourses
+pub mod Stages
+pub mod OwnSteps
+pub mod AloneFails
+pub mod Beginnings

@@ -1,0 +1,4 @@
+pub mod Courses
+pub mod Forward
+pub mod LiveNumbers
+pub mod Planned

@@ -1,0 +1,6 @@
+//! What each step of a long operation makes of a core of several sessions: laws on definitions alone.
+#![tactic(auto)]
+
+pub mod advancing;
+pub mod beginning;
+pub mod courses;
