@@ -7,3 +7,5 @@ pub mod Stages
 pub mod OwnSteps
 pub mod AloneFails
 pub mod Beginnings
+pub mod Left
+pub mod AddAtCommit

@@ -4,3 +4,4 @@
 pub mod advancing;
 pub mod beginning;
 pub mod courses;
+pub mod settling;
