@@ -40,7 +40,7 @@ use Rattle.session_laws.proofs.AloneCore.{alone_core_logs}
 use Rattle.session_laws.proofs.CoreLaws.{core_logs, log_fails}
 use Rattle.session_laws.proofs.EntryLaws.{pending_is_least}
 use Rattle.session_laws.proofs.SessionLaws.{live_then, live_going}
-use Rattle.op_steps.specs.Passing.{IsCourse, changed_at}
+use Rattle.op_steps.specs.Passing.{IsCourse, AtEach, changed_at}
 use Rattle.op_steps.specs.Live.{is_live}
 use Rattle.op_steps.specs.Undoing.{UndoStepOf}
 use Rattle.op_steps.specs.Clearing as way
@@ -50,7 +50,9 @@ use Rattle.op_steps.specs.declared.stages.Stage.{Stage}
 use Rattle.op_steps.specs.declared.beginning.BeginFault.TheVariants as begin
 use Rattle.op_steps.specs.declared.beginning.Begun.TheVariants.{Going}
 use Rattle.op_steps.proofs.NumberLaws.{log_tries_number}
+use Rattle.op_steps.proofs.BeginLaws.{begun_course}
 use Rattle.op_steps.proofs.Courses.{after_then}
+use Rattle.op_steps.proofs.MeaningLaws.{begin_each}
 use Rattle.operation_laws.specs.Courses.{happened_on}
 use Rattle.operation_laws.specs.LiveNumbers.{HasLive, AreTheLive}
 use Rattle.operation_laws.specs.Planned.{IsOpFor}
@@ -328,3 +330,16 @@ pub clears_alone : (first : Image) (past : Past) (connections : Connections) (im
 clears_alone first past connections image doing core live are reach hs clears =
     let c = clears core.run.sound in
     (alone_clears first past connections image doing core live are reach hs c.course, λ op logged. (c.clear op logged).1)
+
+-- ---- what the try of a log row leaves
+
+-- what the stores stood for
+pub tried_means : (live : List ℕ) (op made : Op) (image : Image) → Sound image → (took : Bool) (hs : List Happening) → ClearsAndTries live op made took image hs → meaning (after_all image hs) ≡ meaning image
+tried_means live op made image sound took hs t = last (begin_each live op image sound hs (begun_course live op made took image hs t))
+  where
+    last_of : (now : Image) (hs : List Happening) → AtEach (λ now. Sound now × (meaning now ≡ meaning image)) now hs → meaning (after_all now hs) ≡ meaning image
+    last_of now [] e = e.1
+    last_of now (h ∷ hs) e = last_of (after_one now h) hs e.1
+
+    last : AtEach (λ now. Sound now × (meaning now ≡ meaning image)) image hs → meaning (after_all image hs) ≡ meaning image
+    last e = last_of image hs e

@@ -9,3 +9,5 @@ pub mod AloneFails
 pub mod Beginnings
 pub mod Left
 pub mod AddAtCommit
+pub mod Entries
+pub mod Done
