@@ -47,7 +47,11 @@ use Rattle.plain_model.specs.declared.replies.Reply.TheVariants as reply
 use Rattle.plain_model.specs.Refusing.{Check, if_there, same_kind, refusal, first_refusal, checks, range_between, key_in, high_in, overlaps_in, is_detached, is_suspect}
 use Rattle.plain_model.specs.Steps.{exchange_of, added, plain_step, refused_or_done, exchanging}
 use Rattle.plain_model.specs.Legal.{IsOwnOf}
-use Rattle.operation_laws.specs.Entries.{FollowsAtCommit}
+use Rattle.plain_model.specs.JobSteps.{asked_number}
+use Rattle.session_laws.specs.Core.{Stands}
+use Rattle.session_laws.specs.Doing.{Live}
+use Rattle.session_laws.specs.Needs.{Needs}
+use Rattle.operation_laws.specs.Entries.{FollowsAtCommit, IsAdding}
 
 -- ---- checks that all pass
 
@@ -241,3 +245,13 @@ module _ (image : Image) (sound : Sound image) (op : Op) (logged : HasLog (globa
       held = holds_nothing;
       step = ap (refused_or_done holds_nothing P session (command.Addpoint name text location)) (point_accepted session) ∙ ap (λ (s : PlainState). (s, reply.Ok)) (state_after connections (command.Addpoint name text location) point_olds own);
     }
+
+-- ---- of a live operation
+
+pub adding_at_commit : (session : ℕ) (l : Live) (image : Image) → Sound image → Stands Needs session l image → IsAdding l.command → (connections : Connections) → FollowsAtCommit session l.command image l.op connections connections
+adding_at_commit session l image sound stands adds connections = by l.command adds (stands.exchange connections)
+  where
+    by : (c : Command) → IsAdding c → (asked_number c ≡ None → IsOwnOf (with_connections (meaning image) connections) c None image l.op) → FollowsAtCommit session c image l.op connections connections
+    by (command.Add name low high location) adds own = add_at_commit image sound l.op stands.logged name low high location connections (own refl) session
+    by (command.Addpoint name key location) adds own = addpoint_at_commit image sound l.op stands.logged name key location connections (own refl) session
+    by other adds own = absurd adds

@@ -196,7 +196,7 @@ module _ (since : ℕ) (start : Image) (mode : Mode) (connections : Connections)
     -- ---- in the way
 
     module _ (reach : Reach) (other : Op) (least : way.IsLeastInWay live reach (global I).log other) (e : Entry) (next : AllDoing) (none : live_of (doing e.session) ≡ None) (others : (t : ℕ) → (e.session ≡ t → ⊥) → next t ≡ doing t) where
-      had : HasLive doing other.number
+      pub had : HasLive doing other.number
       had = are.had other.number (and_parts (conflicts reach other) (is_live live other.number) least.in_way).1
 
       same_op : (log : Option Op) (a b : Op) → log ≡ Some a → log ≡ Some b → a ≡ b

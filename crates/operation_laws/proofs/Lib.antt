@@ -11,3 +11,5 @@ pub mod Left
 pub mod AddAtCommit
 pub mod Entries
 pub mod Done
+pub mod Reaches
+pub mod Pending

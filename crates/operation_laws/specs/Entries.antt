@@ -38,3 +38,9 @@ pub record Names (e : Entry) (c : Command) (number : ℕ) (r : Reply) : Type 0 w
 pub record FollowsAtCommit (session : ℕ) (c : Command) (image : Image) (op : Op) (before after : Connections) : Type 0 where
   pub held : Held
   pub step : plain_step held (with_connections (meaning image) before) session c ≡ (with_connections (meaning (committed_image image op)) after, reply.Ok)
+
+-- a command that adds a mapping
+abbrev pub IsAdding : Command → Type 0
+IsAdding (command.Add name low high location) = Unit {0}
+IsAdding (command.Addpoint name key location) = Unit {0}
+IsAdding other = ⊥

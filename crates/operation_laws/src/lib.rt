@@ -2,6 +2,7 @@
 #![tactic(auto)]
 
 pub mod advancing;
+pub mod answering;
 pub mod beginning;
 pub mod courses;
 pub mod settling;
