@@ -45,7 +45,7 @@ use Rattle.plain_model.specs.declared.commands.HighText.{HighText}
 use Rattle.plain_model.specs.declared.commands.Command.TheVariants as command
 use Rattle.plain_model.specs.declared.replies.Reply.TheVariants as reply
 use Rattle.plain_model.specs.Refusing.{Check, if_there, same_kind, refusal, first_refusal, checks, range_between, key_in, high_in, overlaps_in, is_detached, is_suspect}
-use Rattle.plain_model.specs.Steps.{exchange_of, added, plain_step, refused_or_done, exchanging}
+use Rattle.plain_model.specs.Steps.{exchange_of, added, refused_or_done, exchanging}
 use Rattle.plain_model.specs.Legal.{IsOwnOf}
 use Rattle.plain_model.specs.JobSteps.{asked_number}
 use Rattle.session_laws.specs.Core.{Stands}
@@ -172,17 +172,34 @@ module _ (image : Image) (sound : Sound image) (op : Op) (logged : HasLog (globa
         let span : Span = Range l h in
         let range_is : range_between (key_in A name low) (high_in A name high) ≡ Some (Range l h) = ap (λ k. range_between k (high_in A name high)) key ∙ ap (range_between (Some l)) end in
         let s = spans name (Range l h) location olds among in
-        let kind_is = range_of_kind s.0 s.1 l h s.3 in
-        (stands name (Range l h) location olds among,
-        (of_kind name (Range l h) location olds among kind.Range refl kind_is.0,
-        (ap is_none range_is,
-        (ap (if_there (λ (l : Text). if_there (λ (h : High). not (before l h)) (high_in A name high))) key ∙ ap (if_there (λ (h : High). not (before l h))) end ∙ ap not kind_is.1,
-        (known name (Range l h) location olds among,
-        (sharded name (Range l h) location olds among,
-        ((here name (Range l h) location olds among).0,
-        ((here name (Range l h) location olds among).1,
-        (ap (if_there (λ (new : Span). list_any (overlaps_in name new) (map.values (global image).mappings))) range_is ∙ free name (Range l h) location olds among,
-        tt)))))))))
+        let kind_is = range_of_kind s.0 s.1 l h s.3 in (
+          stands name (Range l h) location olds among,
+          (
+            of_kind name (Range l h) location olds among kind.Range refl kind_is.0,
+            (
+              ap is_none range_is,
+              (
+                ap (if_there (λ (l : Text). if_there (λ (h : High). not (before l h)) (high_in A name high))) key ∙ ap (if_there (λ (h : High). not (before l h))) end ∙ ap not kind_is.1,
+                (
+                  known name (Range l h) location olds among,
+                  (
+                    sharded name (Range l h) location olds among,
+                    (
+                      (here name (Range l h) location olds among).0,
+                      (
+                        (here name (Range l h) location olds among).1,
+                        (
+                          ap (if_there (λ (new : Span). list_any (overlaps_in name new) (map.values (global image).mappings))) range_is ∙ free name (Range l h) location olds among,
+                          tt,
+                        ),
+                      ),
+                    ),
+                  ),
+                ),
+              ),
+            ),
+          ),
+        )
 
     add_passes : (session : ℕ) → AllPass (checks A session (command.Add name low high location))
     add_passes session = by (key_in A name low) (high_in A name high) refl refl own
@@ -221,16 +238,31 @@ module _ (image : Image) (sound : Sound image) (op : Op) (logged : HasLog (globa
       where
         passes_at : (k : Text) → key_in P name text ≡ Some k → listed op.olds ≡ [] → IsOneOf (listed op.news) (new name (Point k) location point_olds) → AllPass (checks P session (command.Addpoint name text location))
         passes_at k key olds among =
-            let s = spans name (Point k) location olds among in
-            (stands name (Point k) location olds among,
-            (of_kind name (Point k) location olds among kind.List refl (point_of_kind s.0 s.1 k s.3),
-            (ap is_none key,
-            (known name (Point k) location olds among,
-            (sharded name (Point k) location olds among,
-            ((here name (Point k) location olds among).0,
-            ((here name (Point k) location olds among).1,
-            (ap (λ o. if_there (λ (new : Span). list_any (overlaps_in name new) (map.values (global image).mappings)) (option_map Point o)) key ∙ free name (Point k) location olds among,
-            tt))))))))
+            let s = spans name (Point k) location olds among in (
+              stands name (Point k) location olds among,
+              (
+                of_kind name (Point k) location olds among kind.List refl (point_of_kind s.0 s.1 k s.3),
+                (
+                  ap is_none key,
+                  (
+                    known name (Point k) location olds among,
+                    (
+                      sharded name (Point k) location olds among,
+                      (
+                        (here name (Point k) location olds among).0,
+                        (
+                          (here name (Point k) location olds among).1,
+                          (
+                            ap (λ o. if_there (λ (new : Span). list_any (overlaps_in name new) (map.values (global image).mappings)) (option_map Point o)) key ∙ free name (Point k) location olds among,
+                            tt,
+                          ),
+                        ),
+                      ),
+                    ),
+                  ),
+                ),
+              ),
+            )
 
         by : (k : Option Text) → key_in P name text ≡ k → (listed op.olds ≡ (added name location (option_map Point k)).0) × (listed op.news ≡ (added name location (option_map Point k)).1) → AllPass (checks P session (command.Addpoint name text location))
         by None key own = absurd (bare own.0 own.1)

@@ -1,9 +1,8 @@
 -- A command of one operation is answered: by its commit, by a fault, or for want of memory.
-use Rattle.std.proofs.Common.{◌≡◌, ◌⊎◌, inl, inr, ⊎_elim, ℕ, ◌+◌, ◌<◌, ◌^◌, Bool, true, false, refl, sym, ap, ◌∙◌, subst, Some, None, Option, List, [], ◌∷◌, length}
+use Rattle.std.proofs.Common.{◌≡◌, ◌⊎◌, inl, inr, ⊎_elim, ℕ, ◌+◌, ◌<◌, ◌^◌, false, refl, sym, ap, ◌∙◌, subst, Some, None, Option, List, [], ◌∷◌, length}
 use Rattle.std.specs.Prelude.{Result, IsOk, Err}
-use Rattle.cell_world.specs.Texts.{Text}
 use Rattle.cell_world.specs.Images.{Image, Happening, after_all}
-use Rattle.cell_world.specs.Plain.{PlainState, Connections, Held, with_connections}
+use Rattle.cell_world.specs.Plain.{PlainState, Connections, with_connections}
 use Rattle.cell_world.specs.Marked.{committed_image}
 use Rattle.cell_world.specs.Meaning.{meaning, next_operation}
 use Rattle.cell_world.specs.Sound.{Sound}
@@ -22,7 +21,7 @@ use Rattle.plain_model.specs.Legal.{AllGoing, Promises, is_job_running}
 use Rattle.plain_model.specs.GoingOn.{IsOf}
 use Rattle.plain_model.specs.Written.{Mode}
 use Rattle.plain_model.specs.Running.{text_of}
-use Rattle.session_laws.specs.Doing.{Doing, Resting, Working, AllDoing, Live, live_of, going_of, all_going, IsThen}
+use Rattle.session_laws.specs.Doing.{Resting, Working, AllDoing, Live, live_of, going_of, all_going, IsThen}
 use Rattle.session_laws.specs.Core.{Core, CoreAlone, Leaves}
 use Rattle.session_laws.specs.Needs.{Needs}
 use Rattle.session_laws.proofs.AloneCore.{alone_core_enters}
@@ -31,14 +30,14 @@ use Rattle.op_steps.specs.declared.stages.Stage.{Stage}
 use Rattle.op_steps.specs.declared.beginning.BeginFault.TheVariants as begin
 use Rattle.op_steps.specs.Passing.{FailsByMemory}
 use Rattle.op_steps.specs.Advancing.{AtStage, Advances}
-use Rattle.op_steps.specs.Beginning.{Begins, numbered, ClearsAndTries}
+use Rattle.op_steps.specs.Beginning.{Begins, numbered}
 use Rattle.operation_laws.specs.Courses.{happened_on}
 use Rattle.operation_laws.specs.Forward.{IsForward}
 use Rattle.operation_laws.specs.LiveNumbers.{AreTheLive}
 use Rattle.operation_laws.specs.Planned.{IsOpFor}
 use Rattle.operation_laws.specs.Entries.{EndsNone, IsOneOperation, Names, FollowsAtCommit}
 use Rattle.operation_laws.proofs.Beginnings.{fails_on_trail, fails_alone, tried_means}
-use Rattle.operation_laws.proofs.Entries.{one_of_none, follows_ok, follows_fault, follows_memory, at_commit, answers_ok, answers_fault, answers_memory}
+use Rattle.operation_laws.proofs.Entries.{follows_ok, follows_fault, follows_memory, at_commit, answers_ok, answers_fault, answers_memory}
 use Rattle.operation_laws.proofs.OwnSteps.{ends_on_trail, ends_alone, stage_on_trail, stage_alone, commit_made, commit_failed, commit_untried, step_leaves}
 
 -- ---- the entry

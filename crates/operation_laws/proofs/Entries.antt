@@ -1,5 +1,5 @@
 -- What an entry says of the states and of the trail, where it ends a command that is one operation.
-use Rattle.std.proofs.Common.{◌≡◌, ◌⊎◌, inl, inr, ⊎_elim, ℕ, ◌+◌, refl, sym, ap, ◌∙◌, subst, Some, None, Option, List, length}
+use Rattle.std.proofs.Common.{◌≡◌, ◌⊎◌, ℕ, ◌+◌, refl, sym, ap, ◌∙◌, subst, Some, None, List, length}
 use Rattle.cell_world.specs.Images.{Image, Happening, after_all}
 use Rattle.cell_world.specs.Plain.{PlainState, Connections, Held, with_connections}
 use Rattle.cell_world.specs.Marked.{committed_image}
@@ -7,11 +7,10 @@ use Rattle.cell_world.specs.Meaning.{meaning}
 use Rattle.cell_world.specs.declared.operations.Op.{Op}
 use Rattle.plain_model.specs.declared.commands.Command.{Command}
 use Rattle.plain_model.specs.declared.commands.Command.TheVariants as command
-use Rattle.plain_model.specs.declared.replies.Reply.{Reply}
 use Rattle.plain_model.specs.declared.replies.Reply.TheVariants as reply
 use Rattle.plain_model.specs.declared.history.Entry.{Entry}
 use Rattle.plain_model.specs.Steps.{plain_step}
-use Rattle.plain_model.specs.JobSteps.{asked_number, asked_job}
+use Rattle.plain_model.specs.JobSteps.{asked_job}
 use Rattle.plain_model.specs.Follows.{Follows, FollowsFault, FollowsMemory}
 use Rattle.plain_model.specs.OnTrail.{OnTrail, HoldsThen, FaultOnTrail}
 use Rattle.plain_model.specs.Timelines.{Timeline, Past, image_of, facts_of, happened_of, past_of}
@@ -56,7 +55,6 @@ holds_then start p A B (command.Move name key location token) o = tt
 holds_then start p A B (command.Split name key token) o = tt
 holds_then start p A B (command.Merge name key token) o = tt
 holds_then start p A B other o = absurd o
-
 
 fault_follows : (A B : PlainState) (e : Entry) (c : Command) → EndsNone c → (B ≡ A) ⊎ ((held : Held) × (B ≡ (plain_step held A e.session c).0)) → FollowsFault A B e c None
 fault_follows A B e (command.Add name low high location) n h = h

@@ -1,14 +1,11 @@
 -- What is committed and not settled yet: it stays so through what others do, and is clean where it is settled.
-use Rattle.std.proofs.Common.{◌≡◌, ◌≢◌, ◌⊎◌, inl, inr, Bool, true, false, ◌||◌, ℕ, eqb, refl, sym, ap, ◌∙◌, subst, Some, None, Option, List, [], ◌∷◌, ◌++◌, eq-eqb}
-use Rattle.std.specs.Prelude.{IsTrue}
+use Rattle.std.proofs.Common.{◌≡◌, ◌≢◌, inl, inr, Bool, true, false, ◌||◌, ℕ, refl, sym, ap, ◌∙◌, subst, Some, None, Option, List, [], ◌∷◌, ◌++◌}
 use Rattle.std.specs.FinMap as map
 use Rattle.std.proofs.lemmas.Bool.{cases_Bool}
-use Rattle.std.proofs.lemmas.Bool.Decides.{eqb_tells}
 use Rattle.cell_world.specs.Texts.{Text}
 use Rattle.cell_world.specs.Keys.{same, is_among}
 use Rattle.cell_world.specs.Lists.{IsOneOf}
 use Rattle.cell_world.specs.Spelled.{listed}
-use Rattle.cell_world.specs.Stores.{Locals}
 use Rattle.cell_world.specs.Images.{Image, Place, Happening, global, after_all}
 use Rattle.cell_world.specs.Marked.{HasNoMark, marked_sites}
 use Rattle.cell_world.specs.Operations.{locations_of, sites_of, sites_of_extra}
@@ -29,7 +26,6 @@ use Rattle.op_steps.specs.Passing.{IsCourse, changed_at}
 use Rattle.op_steps.specs.Undoing.{UndoStep, AtSite, LogRow, UndoStepOf, AnyUndoStep}
 use Rattle.op_steps.specs.Clearing.{IsAbandonedInWay}
 use Rattle.op_steps.specs.Beginning.{BeginStep, Clearing, Logging, numbered}
-use Rattle.op_steps.specs.Advancing as stage
 use Rattle.op_steps.specs.Advancing.{AtStage, SettlesAt, AdvanceStep, Stepping, Committing, Settling}
 use Rattle.op_steps.proofs.AdvanceMeaning.{advance_step_sound}
 use Rattle.op_steps.proofs.Courses.{course_keeps, course_weaker}

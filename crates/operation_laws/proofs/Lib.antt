@@ -13,3 +13,4 @@ pub mod Entries
 pub mod Done
 pub mod Reaches
 pub mod Pending
+pub mod ShortStands

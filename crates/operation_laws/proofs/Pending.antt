@@ -1,7 +1,6 @@
 -- A command is answered `pending`: a live operation of another session is in its way.
-use Rattle.std.proofs.Common.{◌≡◌, ◌≤◌, ◌<◌, ◌^◌, ℕ, ◌+◌, arith, true, refl, sym, ap, ◌∙◌, subst, Some, None, Option, List, [], ◌∷◌, length}
+use Rattle.std.proofs.Common.{◌≡◌, ◌<◌, ◌^◌, ℕ, ◌+◌, arith, true, refl, sym, ap, ◌∙◌, subst, Some, None, Option, List, [], ◌∷◌, length}
 use Rattle.std.specs.Prelude.{Ok, option_and_then}
-use Rattle.cell_world.specs.Texts.{Text}
 use Rattle.cell_world.specs.Images.{Image, Happening, global}
 use Rattle.cell_world.specs.Lawful.{Lawful}
 use Rattle.cell_world.specs.Plain.{PlainState, Connections, with_connections}
@@ -10,7 +9,6 @@ use Rattle.cell_world.specs.Sound.{Sound}
 use Rattle.cell_world.specs.declared.operations.Op.{Op}
 use Rattle.cell_world.specs.declared.operations.Reach.{Reach}
 use Rattle.plain_model.specs.declared.commands.Command.{Command}
-use Rattle.plain_model.specs.declared.replies.Reply.{Reply}
 use Rattle.plain_model.specs.declared.replies.Reply.TheVariants as reply
 use Rattle.plain_model.specs.declared.history.Entry.{Entry}
 use Rattle.plain_model.specs.Refusing.{refusal, job_of_number}
@@ -19,11 +17,11 @@ use Rattle.plain_model.specs.Follows.{Follows}
 use Rattle.plain_model.specs.OnTrail as trail
 use Rattle.plain_model.specs.OnTrail.{OnTrail, reach_of_command, is_open}
 use Rattle.plain_model.specs.Timelines.{Timeline, Past, Entered, image_of, facts_of, happened_of, past_of}
-use Rattle.plain_model.specs.Legal.{Promises, PromisesOperation, IsPlanned, is_job_running}
+use Rattle.plain_model.specs.Legal.{Promises, IsPlanned, is_job_running}
 use Rattle.plain_model.specs.GoingOn.{IsOf}
 use Rattle.plain_model.specs.Written.{Mode}
 use Rattle.plain_model.specs.Running.{text_of}
-use Rattle.session_laws.specs.Doing.{Doing, Resting, Working, AllDoing, live_of, going_of, all_going, IsThen}
+use Rattle.session_laws.specs.Doing.{Resting, Working, AllDoing, live_of, going_of, all_going, IsThen}
 use Rattle.session_laws.specs.Core.{Core, CoreAlone}
 use Rattle.session_laws.specs.Needs.{Needs}
 use Rattle.session_laws.proofs.AloneCore.{alone_core_enters}

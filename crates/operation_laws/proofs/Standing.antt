@@ -87,7 +87,7 @@ module _ (session : ℕ) (l : Live) (image : Image) (sound : Sound image) (stand
 
   -- ---- global changes
 
-  stands_global : (g : Store) → HasLog g.log l.op → g.away ≡ (global image).away
+  pub stands_global : (g : Store) → HasLog g.log l.op → g.away ≡ (global image).away
       → ((connections : Connections) → asked_number l.command ≡ None → IsOwnOf (with_connections (meaning (with_store image Global g)) connections) l.command None (with_store image Global g) l.op)
       → Stands Needs session l (with_store image Global g)
   stands_global g logged away exchange = record { logged = logged; exchange = exchange; more = under_way_global image l.op _ stands.more g logged away }
@@ -102,7 +102,7 @@ module _ (session : ℕ) (l : Live) (image : Image) (sound : Sound image) (stand
       (λ connections none. tables_same (with_connections (meaning image) connections) (with_connections (meaning (with_store image Global g)) connections) image (with_store image Global g) l.command l.op (sym maps) (sym mappings) (stands.exchange connections none))
 
   -- a lawful operation has an old or a new mapping
-  bare : listed l.op.olds ≡ [] → listed l.op.news ≡ [] → ⊥
+  pub bare : listed l.op.olds ≡ [] → listed l.op.news ≡ [] → ⊥
   bare olds news = let e : None ≡ Some l.op.hull = (λ i. hull_of (sym olds i ++ sym news i)) ∙ (sound.logged.lawful l.op stands.logged).hull in absurd cc
 
   -- any exchange of mappings that is apart from it: another operation's commit, a token that changes

@@ -6,3 +6,4 @@ pub mod answering;
 pub mod beginning;
 pub mod courses;
 pub mod settling;
+pub mod short;
