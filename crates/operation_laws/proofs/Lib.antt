@@ -14,3 +14,5 @@ pub mod Done
 pub mod Reaches
 pub mod Pending
 pub mod ShortStands
+pub mod Settled
+pub mod FirstImage

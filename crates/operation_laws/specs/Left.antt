@@ -15,3 +15,9 @@ left_of (Operating command op stage) = None
 -- What sessions have to settle is committed, with no mark at a site where it has no mapping.
 abbrev pub AreLeft : AllDoing → Image → Type 0
 AreLeft doing image = (session : ℕ) (op : Op) → left_of (doing session) ≡ Some op → AtStage op Committed image
+
+-- it has nothing to settle any more
+abbrev pub without_left : Doing → Doing
+without_left (Resting left) = Resting None
+without_left (Working command left) = Working command None
+without_left (Operating command op stage) = Operating command op stage

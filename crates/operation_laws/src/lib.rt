@@ -5,5 +5,6 @@ pub mod advancing;
 pub mod answering;
 pub mod beginning;
 pub mod courses;
+pub mod recovering;
 pub mod settling;
 pub mod short;
