@@ -1,0 +1,6 @@
+pub mod Courses
+pub mod Entries
+pub mod Forward
+pub mod Left
+pub mod LiveNumbers
+pub mod Planned
