@@ -9,6 +9,7 @@ pub mod Exchanges
 pub mod FirstImage
 pub mod Full
 pub mod Left
+pub mod MappingAtCommit
 pub mod OwnSteps
 pub mod Pending
 pub mod Reaches

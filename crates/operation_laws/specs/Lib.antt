@@ -3,4 +3,5 @@ pub mod Entries
 pub mod Forward
 pub mod Left
 pub mod LiveNumbers
+pub mod Opening
 pub mod Planned
