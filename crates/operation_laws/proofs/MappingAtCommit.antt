@@ -1,21 +1,25 @@
 -- What commands on a mapping bring to their commit: `offline`, `online`, `split` and `merge` aren't refused then either, where the token opens the mappings, and their plain step is the commit.
-use Rattle.std.proofs.Common.{◌≡◌, ◌⊎◌, inl, inr, ℕ, Bool, true, false, not, cond, refl, sym, ap, ◌∙◌, subst, Some, None, Option, is_some, List, [], ◌∷◌, ◌++◌, eqb, eq-eqb, true≢false}
+use Rattle.std.proofs.Common.{◌≡◌, ◌⊎◌, inl, inr, ℕ, Bool, true, false, ◌||◌, not, cond, refl, sym, ap, ◌∙◌, subst, Some, None, Option, is_some, List, [], ◌∷◌, ◌++◌, eqb, eq-eqb, true≢false}
 use Rattle.std.specs.Prelude.{IsTrue, option_and_then, option_map, ◌&&◌}
 use Rattle.std.specs.Option.{is_none}
 use Rattle.std.specs.FinMap as map
+use Rattle.std.specs.List.{list_any}
+use Rattle.std.proofs.Common.{map as list_map}
+use Rattle.std.proofs.lemmas.Bool.{and_parts}
+use Rattle.std.proofs.lemmas.Option.{none-some}
 use Rattle.cell_world.specs.Texts.{Text}
 use Rattle.cell_world.specs.Lists.{IsOneOf}
-use Rattle.cell_world.specs.Keys.{same, before, low_of, end_of}
+use Rattle.cell_world.specs.Keys.{same, before, contains, low_of, end_of}
 use Rattle.cell_world.specs.Jobs.{part_of}
 use Rattle.cell_world.specs.Spelled.{listed}
 use Rattle.cell_world.specs.Stores.{exchanged}
 use Rattle.cell_world.specs.Images.{Image, global}
 use Rattle.cell_world.specs.Plain.{PlainState, Connections, with_connections, owner, is_attached, holds_nothing}
 use Rattle.cell_world.specs.Marked.{committed_image, jobs_after}
-use Rattle.cell_world.specs.Meaning.{meaning}
+use Rattle.cell_world.specs.Meaning.{meaning, owner_of, is_attached_at}
 use Rattle.cell_world.specs.Operations.{hull_of}
-use Rattle.cell_world.specs.Sound.{Sound, HasLog, IsAttachedIn, IsSpanOf}
-use Rattle.cell_world.specs.Lawful.{Lawful, HasShape, rows_at}
+use Rattle.cell_world.specs.Sound.{Sound, HasLog, HasPiece, IsAttachedIn, IsSpanOf}
+use Rattle.cell_world.specs.Lawful.{Lawful, HasShape, rows_at, rows_under}
 use Rattle.cell_world.specs.KeyForms.{is_span_of}
 use Rattle.cell_world.specs.declared.operations.Extra.TheVariants as extra
 use Rattle.cell_world.specs.declared.operations.Op.{Op}
@@ -31,11 +35,16 @@ use Rattle.cell_world.specs.declared.spans.High.TheVariants.{At}
 use Rattle.cell_world.specs.declared.spans.Span.{Span}
 use Rattle.cell_world.specs.declared.spans.Span.TheVariants.{Range}
 use Rattle.cell_world.proofs.MappingLaws.{sound_mappings}
-use Rattle.cell_world.proofs.SpanLaws.{same_is}
+use Rattle.cell_world.proofs.OrderLaws.{rows_total, exact_rows}
+use Rattle.cell_world.proofs.SpanLaws.{same_is, overlaps_shared}
+use Rattle.cell_world.specs.Orders.{row_cmp}
+use Rattle.cell_world.specs.declared.cells.RowName.{RowName}
+use Rattle.global_tables.proofs.Entries.{entry_stands}
+use Rattle.image_laws.proofs.MeaningLaws.{get-rows}
 use Rattle.image_laws.specs.Fits.{Fits}
 use Rattle.image_laws.proofs.CommitImages.{commit_meaning}
 use Rattle.image_laws.proofs.JobTable.{end_not_self}
-use Rattle.image_laws.proofs.OwnerLaws.{owner_key}
+use Rattle.image_laws.proofs.OwnerLaws.{owner_key, owner_stands}
 use Rattle.image_laws.proofs.Places.{old_attached}
 use Rattle.image_laws.proofs.SoundParts.{are_logged}
 use Rattle.plain_model.specs.declared.commands.Command.{Command}
@@ -183,4 +192,173 @@ module _ (image : Image) (sound : Sound image) (op : Op) (logged : HasLog (globa
   online_at_commit session token own opens = record {
     held = holds_nothing;
     step = ap (refused_or_done holds_nothing A session (command.Online name key token)) (online_accepted session token own opens) ∙ ap (λ (s : PlainState). (s, reply.Ok)) (state_after (command.Online name key token) opens.no_job own);
+  }
+
+  -- its map is the one that is named
+  of_name : (p : Piece) → mapping_of A name key ≡ Some p → p.map ≡ name
+  of_name p is = let k = the_key p is in (owner_stands (global image).maps (global image).mappings (sound_mappings image sound).placed name k.0 p k.2).1
+
+  -- a new mapping that is a range is of a range map, and isn't empty
+  part_is : (p : Piece) → p.map ≡ name → (low : Text) (high : High) → IsOneOf (listed op.news) (part_of p low high)
+      → (if_there (λ k. not (same_kind kind.Range k)) (option_map (λ (m : MapKind × KeyType). m.0) (map.get (global image).maps name)) ≡ false) × (before low high ≡ true)
+  part_is p of_map low high among =
+      let s : IsSpanOf (global image).maps name (Range low high) = subst (λ n. IsSpanOf (global image).maps n (Range low high)) of_map (fit.new_spans (part_of p low high) among) in
+      let k = range_of_kind s.0 s.1 low high s.3 in
+      (ap (λ (o : Option (MapKind × KeyType)). if_there (λ x. not (same_kind kind.Range x)) (option_map (λ m. m.0) o)) s.2 ∙ ap (λ x. not (same_kind kind.Range x)) k.0, k.1)
+
+  -- ---- `split`
+
+  abbrev cut : Piece → Exchange
+  cut p = exchange_by (λ k. exchange_by (λ end. (p ∷ [], part_of p (low_of p.span) (At k) ∷ part_of p k end ∷ [])) (end_of p.span)) (key_in A name key)
+
+  -- where it is cut
+  record IsCut (p : Piece) : Type 0 where
+    pub at : Text
+    pub is_key : key_in A name key ≡ Some at
+    pub old : IsOneOf (listed op.olds) p
+    pub new : IsOneOf (listed op.news) (part_of p (low_of p.span) (At at))
+
+  is_cut : (p : Piece) → Own (cut p) → IsCut p
+  is_cut p own = by (key_in A name key) (end_of p.span) refl own
+    where
+      by : (k : Option Text) (end : Option High) → key_in A name key ≡ k → Own (exchange_by (λ k. exchange_by (λ end. (p ∷ [], part_of p (low_of p.span) (At k) ∷ part_of p k end ∷ [])) end) k) → IsCut p
+      by None end e own = absurd (bare own.0 own.1)
+      by (Some k) None e own = absurd (bare own.0 own.1)
+      by (Some k) (Some end) e own = record {
+        at = k;
+        is_key = e;
+        old = subst (λ ps. IsOneOf ps p) (sym own.0) (inl refl);
+        new = subst (λ ps. IsOneOf ps (part_of p (low_of p.span) (At k))) (sym own.1) (inl refl);
+      }
+
+  -- a key that isn't the low one
+  not_low : (k low : Text) → before low (At k) ≡ true → same k low ≡ false
+  not_low k low h = by (same k low) refl
+    where
+      by : (b : Bool) → same k low ≡ b → b ≡ false
+      by false e = refl
+      by true e = absurd (true≢false (sym (end_not_self (At low)) ∙ ap not (subst (λ x. before low (At x) ≡ true) (same_is k low e) h)))
+
+  split_accepted : (session : ℕ) (token : Option Token) → IsOwnOf A (command.Split name key token) None image op → Opens token op → refusal A session (command.Split name key token) ≡ None
+  unfolding refusal
+  split_accepted session token own opens =
+      let t = over_key cut own in
+      let c = is_cut t.piece t.own in
+      let part = part_is t.piece (of_name t.piece t.is) (low_of t.piece.span) (At c.at) c.new in
+      let low : if_there (λ (p : Piece). if_there (λ k. same k (low_of p.span)) (key_in A name key)) (mapping_of A name key) ≡ false =
+      ap (if_there (λ (p : Piece). if_there (λ k. same k (low_of p.span)) (key_in A name key))) t.is ∙ ap (if_there (λ k. same k (low_of t.piece.span))) c.is_key ∙ not_low c.at (low_of t.piece.span) part.1 in
+      all_pass (checks A session (command.Split name key token))
+      (stands t.piece t.is, (part.0, (has_key t.piece t.is, (has_mapping t.piece t.is, (not_detached t.piece t.is c.old, (not_suspect t.piece t.is c.old, (unlocked t.piece t.is c.old token opens, (low, tt))))))))
+
+  pub split_at_commit : (session : ℕ) (token : Option Token) → IsOwnOf A (command.Split name key token) None image op → Opens token op → FollowsAtCommit session (command.Split name key token) image op connections connections
+  split_at_commit session token own opens = record {
+    held = holds_nothing;
+    step = ap (refused_or_done holds_nothing A session (command.Split name key token)) (split_accepted session token own opens) ∙ ap (λ (s : PlainState). (s, reply.Ok)) (state_after (command.Split name key token) opens.no_job own);
+  }
+
+  -- ---- `merge`
+
+  abbrev joined : Piece → Exchange
+  joined p = exchange_by (λ next. exchange_by (λ end. (p ∷ next ∷ [], part_of p (low_of p.span) end ∷ [])) (end_of next.span)) (next_mapping A p)
+
+  -- what it is joined with
+  record IsJoined (p : Piece) : Type 0 where
+    pub next : Piece
+    pub is_next : next_mapping A p ≡ Some next
+    pub end : High
+    pub old : IsOneOf (listed op.olds) p
+    pub new : IsOneOf (listed op.news) (part_of p (low_of p.span) end)
+
+  is_joined : (p : Piece) → Own (joined p) → IsJoined p
+  is_joined p own = by (next_mapping A p) refl own
+    where
+      to : (n : Piece) (end : Option High) → next_mapping A p ≡ Some n → Own (exchange_by (λ end. (p ∷ n ∷ [], part_of p (low_of p.span) end ∷ [])) end) → IsJoined p
+      to n None e own = absurd (bare own.0 own.1)
+      to n (Some end) e own = record {
+        next = n;
+        is_next = e;
+        end = end;
+        old = subst (λ ps. IsOneOf ps p) (sym own.0) (inl refl);
+        new = subst (λ ps. IsOneOf ps (part_of p (low_of p.span) end)) (sym own.1) (inl refl);
+      }
+
+      by : (n : Option Piece) → next_mapping A p ≡ n → Own (exchange_by (λ next. exchange_by (λ end. (p ∷ next ∷ [], part_of p (low_of p.span) end ∷ [])) (end_of next.span)) n) → IsJoined p
+      by None e own = absurd (bare own.0 own.1)
+      by (Some n) e own = to n (end_of n.span) e own
+
+  merge_accepted : (session : ℕ) (token : Option Token) → IsOwnOf A (command.Merge name key token) None image op → Opens token op → refusal A session (command.Merge name key token) ≡ None
+  unfolding refusal
+  merge_accepted session token own opens =
+      let t = over_key joined own in
+      let j = is_joined t.piece t.own in
+      let part = part_is t.piece (of_name t.piece t.is) (low_of t.piece.span) j.end j.new in
+      let mergeable : if_there (λ (p : Piece). is_none (next_mapping A p)) (mapping_of A name key) ≡ false = ap (if_there (λ (p : Piece). is_none (next_mapping A p))) t.is ∙ ap is_none j.is_next in
+      all_pass (checks A session (command.Merge name key token))
+      (stands t.piece t.is, (part.0, (has_key t.piece t.is, (has_mapping t.piece t.is, (not_detached t.piece t.is j.old, (not_suspect t.piece t.is j.old, (unlocked t.piece t.is j.old token opens, (mergeable, tt))))))))
+
+  pub merge_at_commit : (session : ℕ) (token : Option Token) → IsOwnOf A (command.Merge name key token) None image op → Opens token op → FollowsAtCommit session (command.Merge name key token) image op connections connections
+  merge_at_commit session token own opens = record {
+    held = holds_nothing;
+    step = ap (refused_or_done holds_nothing A session (command.Merge name key token)) (merge_accepted session token own opens) ∙ ap (λ (s : PlainState). (s, reply.Ok)) (state_after (command.Merge name key token) opens.no_job own);
+  }
+
+  -- ---- `delete`
+
+  -- a key of a map is that of an entry
+  key_of_any : (test : RowName → Bool) (es : List (RowName × Text)) → list_any test (list_map (λ e. e.0) es) ≡ true → (e : RowName × Text) × IsOneOf es e × (test e.0 ≡ true)
+  key_of_any test [] h = absurd cc
+  key_of_any test (e ∷ es) h = by (test e.0) refl h (key_of_any test es)
+    where
+      by : (b : Bool) → test e.0 ≡ b → (b || list_any test (list_map (λ e. e.0) es)) ≡ true → (list_any test (list_map (λ e. e.0) es) ≡ true → (x : RowName × Text) × IsOneOf es x × (test x.0 ≡ true)) → (x : RowName × Text) × IsOneOf (e ∷ es) x × (test x.0 ≡ true)
+      by true t h more = (e, inl refl, t)
+      by false t h more = let r = more h in (r.0, inr r.1, r.2)
+
+  held_bytes : (b : Bool) (o : Option Text) (bytes : Text) → cond b o None ≡ Some bytes → o ≡ Some bytes
+  held_bytes true o bytes h = h
+  held_bytes false o bytes h = absurd cc
+
+  -- a mapping whose site has no row under it
+  module _ (p : Piece) (has : HasPiece (global image).mappings p) (empty : rows_under (rows_at image p.location) p.map p.span ≡ map.empty) where
+    abbrev under : RowName → Bool
+    under row = same p.map row.map && contains p.span row.key
+
+    gone : (row : RowName) (bytes : Text) → under row ≡ true → map.get (rows_at image p.location) row ≡ Some bytes → ⊥
+    gone row bytes inside h = none-some bytes (sym (map.get-empty row_cmp row) ∙ ap (λ m. map.get m row) (sym empty)
+        ∙ map.get-retain_keys (rows_at image p.location) under row (λ x tie. ap under (sym (exact_rows row x tie))) ∙ ap (λ b. cond b (map.get (rows_at image p.location) row) None) inside ∙ h)
+
+    at_owner : (row : RowName) (bytes : Text) → under row ≡ true → (o : Option Piece) → owner_of image row.map row.key ≡ o
+        → option_and_then (λ (q : Piece). cond (is_attached_at image.locations (global image).away q.location) (map.get (rows_at image q.location) row) None) o ≡ Some bytes → ⊥
+    at_owner row bytes inside None is h = absurd cc
+    at_owner row bytes inside (Some q) is h =
+        let both = and_parts (same p.map row.map) (contains p.span row.key) inside in
+        let s = owner_stands (global image).maps (global image).mappings (sound_mappings image sound).placed row.map row.key q is in
+        let one : p ≡ q = (sound_mappings image sound).disjoint p q has s.0 (same_is p.map row.map both.0 ∙ sym s.1) (overlaps_shared p.span q.span row.key both.1 s.2) in
+        gone row bytes inside (ap (λ (x : Piece). map.get (rows_at image x.location) row) one ∙ held_bytes (is_attached_at image.locations (global image).away q.location) (map.get (rows_at image q.location) row) bytes h)
+
+    -- has none in the state either
+    no_row : list_any under (map.keys (meaning image).rows) ≡ false
+    no_row = by (list_any under (map.keys (meaning image).rows)) refl
+      where
+        by : (b : Bool) → list_any under (map.keys (meaning image).rows) ≡ b → b ≡ false
+        by false e = refl
+        by true e =
+            let r = key_of_any under (map.entries (meaning image).rows) e in
+            absurd (at_owner r.0.0 r.0.1 r.2 (owner_of image r.0.0.map r.0.0.key) refl (sym (get-rows image r.0.0) ∙ entry_stands row_cmp rows_total (meaning image).rows r.0 r.1))
+
+  delete_accepted : (session : ℕ) (token : Option Token) → IsOwnOf A (command.Delete name key token) None image op → Opens token op → refusal A session (command.Delete name key token) ≡ None
+  unfolding refusal
+  delete_accepted session token own opens =
+      let t = over_key (λ p. (p ∷ [], [])) own in
+      let among : IsOneOf (listed op.olds) t.piece = subst (λ ps. IsOneOf ps t.piece) (sym t.own.0) (inl refl) in
+      let shape : HasShape (rows_at image) (t.piece ∷ []) [] = subst (λ ps. HasShape (rows_at image) (t.piece ∷ []) ps) t.own.1 (subst (λ ps. HasShape (rows_at image) ps (listed op.news)) t.own.0 law.shape) in
+      let offline : if_there (λ (p : Piece). same_status Online p.status) (mapping_of A name key) ≡ false = ap (if_there (λ (p : Piece). same_status Online p.status)) t.is ∙ ap (same_status Online) shape.0 in
+      let empty : if_there (λ (p : Piece). list_any (λ (row : RowName). same p.map row.map && contains p.span row.key) (map.keys (meaning image).rows)) (mapping_of A name key) ≡ false =
+      ap (if_there (λ (p : Piece). list_any (λ (row : RowName). same p.map row.map && contains p.span row.key) (map.keys (meaning image).rows))) t.is ∙ no_row t.piece (fit.stand t.piece among) shape.1 in
+      all_pass (checks A session (command.Delete name key token))
+      (stands t.piece t.is, (has_key t.piece t.is, (has_mapping t.piece t.is, (not_detached t.piece t.is among, (not_suspect t.piece t.is among, (unlocked t.piece t.is among token opens, (offline, (empty, tt))))))))
+
+  pub delete_at_commit : (session : ℕ) (token : Option Token) → IsOwnOf A (command.Delete name key token) None image op → Opens token op → FollowsAtCommit session (command.Delete name key token) image op connections connections
+  delete_at_commit session token own opens = record {
+    held = holds_nothing;
+    step = ap (refused_or_done holds_nothing A session (command.Delete name key token)) (delete_accepted session token own opens) ∙ ap (λ (s : PlainState). (s, reply.Ok)) (state_after (command.Delete name key token) opens.no_job own);
   }
