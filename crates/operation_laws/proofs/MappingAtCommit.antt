@@ -1,27 +1,29 @@
--- What commands on a mapping bring to their commit: `offline`, `online`, `split` and `merge` aren't refused then either, where the token opens the mappings, and their plain step is the commit.
+-- What commands on a mapping bring to their commit: they aren't refused then either, where the token opens the mappings, and their plain step is the commit.
 use Rattle.std.proofs.Common.{◌≡◌, ◌⊎◌, inl, inr, ℕ, Bool, true, false, ◌||◌, not, cond, refl, sym, ap, ◌∙◌, subst, Some, None, Option, is_some, List, [], ◌∷◌, ◌++◌, eqb, eq-eqb, true≢false}
 use Rattle.std.specs.Prelude.{IsTrue, option_and_then, option_map, ◌&&◌}
 use Rattle.std.specs.Option.{is_none}
 use Rattle.std.specs.FinMap as map
+use Rattle.std.specs.FinSet as set
 use Rattle.std.specs.List.{list_any}
 use Rattle.std.proofs.Common.{map as list_map}
-use Rattle.std.proofs.lemmas.Bool.{and_parts}
+use Rattle.std.proofs.lemmas.Bool.{and_parts, and_from}
 use Rattle.std.proofs.lemmas.Option.{none-some}
 use Rattle.cell_world.specs.Texts.{Text}
 use Rattle.cell_world.specs.Lists.{IsOneOf}
 use Rattle.cell_world.specs.Keys.{same, before, contains, low_of, end_of}
 use Rattle.cell_world.specs.Jobs.{part_of}
 use Rattle.cell_world.specs.Spelled.{listed}
-use Rattle.cell_world.specs.Stores.{exchanged}
+use Rattle.cell_world.specs.Stores.{Rows, exchanged}
 use Rattle.cell_world.specs.Images.{Image, global}
 use Rattle.cell_world.specs.Plain.{PlainState, Connections, with_connections, owner, is_attached, holds_nothing}
 use Rattle.cell_world.specs.Marked.{committed_image, jobs_after}
-use Rattle.cell_world.specs.Meaning.{meaning, owner_of, is_attached_at}
+use Rattle.cell_world.specs.Meaning.{meaning, next_job, owner_of, is_attached_at}
 use Rattle.cell_world.specs.Operations.{hull_of}
-use Rattle.cell_world.specs.Sound.{Sound, HasLog, HasPiece, IsAttachedIn, IsSpanOf}
-use Rattle.cell_world.specs.Lawful.{Lawful, HasShape, rows_at, rows_under}
+use Rattle.cell_world.specs.Sound.{Sound, HasLog, HasPiece, HasJob, IsAttachedIn, IsSpanOf}
+use Rattle.cell_world.specs.Lawful.{Lawful, HasShape, Moves, IsOfJob, IsStepOf, read_tables, rows_at, rows_under, job_of_pieces}
 use Rattle.cell_world.specs.KeyForms.{is_span_of}
 use Rattle.cell_world.specs.declared.operations.Extra.TheVariants as extra
+use Rattle.cell_world.specs.declared.operations.JobRow.{JobRow}
 use Rattle.cell_world.specs.declared.operations.Op.{Op}
 use Rattle.cell_world.specs.declared.operations.Piece.{Piece}
 use Rattle.cell_world.specs.declared.cells.MapKind.{MapKind}
@@ -34,24 +36,26 @@ use Rattle.cell_world.specs.declared.spans.High.{High}
 use Rattle.cell_world.specs.declared.spans.High.TheVariants.{At}
 use Rattle.cell_world.specs.declared.spans.Span.{Span}
 use Rattle.cell_world.specs.declared.spans.Span.TheVariants.{Range}
+use Rattle.cell_world.proofs.ListLaws.{all_at}
 use Rattle.cell_world.proofs.MappingLaws.{sound_mappings}
 use Rattle.cell_world.proofs.OrderLaws.{rows_total, exact_rows}
-use Rattle.cell_world.proofs.SpanLaws.{same_is, overlaps_shared}
+use Rattle.cell_world.proofs.SpanLaws.{same_is, same_self, overlaps_shared}
 use Rattle.cell_world.specs.Orders.{row_cmp}
 use Rattle.cell_world.specs.declared.cells.RowName.{RowName}
 use Rattle.global_tables.proofs.Entries.{entry_stands}
 use Rattle.image_laws.proofs.MeaningLaws.{get-rows}
 use Rattle.image_laws.specs.Fits.{Fits}
-use Rattle.image_laws.proofs.CommitImages.{commit_meaning}
+use Rattle.image_laws.proofs.CommitImages.{commit_meaning, batch_outside}
+use Rattle.image_laws.proofs.JobKinds.{StepKind, Merging, Splitting, Batching, step_kind}
 use Rattle.image_laws.proofs.JobTable.{end_not_self}
 use Rattle.image_laws.proofs.OwnerLaws.{owner_key, owner_stands}
-use Rattle.image_laws.proofs.Places.{old_attached}
+use Rattle.image_laws.proofs.Places.{old_attached, new_attached}
 use Rattle.image_laws.proofs.SoundParts.{are_logged}
 use Rattle.plain_model.specs.declared.commands.Command.{Command}
 use Rattle.plain_model.specs.declared.commands.Command.TheVariants as command
 use Rattle.plain_model.specs.declared.replies.Reply.TheVariants as reply
 use Rattle.plain_model.specs.Refusing.{refusal, checks, mapping_of, key_in, next_mapping, locked, same_kind, same_token, same_status, is_detached, is_suspect, if_there, location_of_mapping}
-use Rattle.plain_model.specs.Steps.{Exchange, exchange_of, exchange_by, exchanging, refused_or_done, with_status, ended_under}
+use Rattle.plain_model.specs.Steps.{Exchange, exchange_of, exchange_by, exchanging, refused_or_done, with_status, with_location, ended_under}
 use Rattle.plain_model.specs.Legal.{IsOwnOf}
 use Rattle.operation_laws.specs.Entries.{FollowsAtCommit}
 use Rattle.operation_laws.specs.Opening.{Opens}
@@ -317,33 +321,44 @@ module _ (image : Image) (sound : Sound image) (op : Op) (logged : HasLog (globa
   held_bytes true o bytes h = h
   held_bytes false o bytes h = absurd cc
 
-  -- a mapping whose site has no row under it
-  module _ (p : Piece) (has : HasPiece (global image).mappings p) (empty : rows_under (rows_at image p.location) p.map p.span ≡ map.empty) where
-    abbrev under : RowName → Bool
-    under row = same p.map row.map && contains p.span row.key
+  -- the key is one of the mapping
+  abbrev under : Piece → RowName → Bool
+  under p row = same p.map row.map && contains p.span row.key
 
-    gone : (row : RowName) (bytes : Text) → under row ≡ true → map.get (rows_at image p.location) row ≡ Some bytes → ⊥
-    gone row bytes inside h = none-some bytes (sym (map.get-empty row_cmp row) ∙ ap (λ m. map.get m row) (sym empty)
-        ∙ map.get-retain_keys (rows_at image p.location) under row (λ x tie. ap under (sym (exact_rows row x tie))) ∙ ap (λ b. cond b (map.get (rows_at image p.location) row) None) inside ∙ h)
+  -- the rows under a mapping, at a site
+  get_under : (rows : Rows) (p : Piece) (row : RowName) → under p row ≡ true → map.get (rows_under rows p.map p.span) row ≡ map.get rows row
+  get_under rows p row inside = map.get-retain_keys rows (under p) row (λ x tie. ap (under p) (sym (exact_rows row x tie))) ∙ ap (λ b. cond b (map.get rows row) None) inside
 
-    at_owner : (row : RowName) (bytes : Text) → under row ≡ true → (o : Option Piece) → owner_of image row.map row.key ≡ o
+  -- who owns a key of a mapping is that mapping
+  owner_one : (p : Piece) → HasPiece (global image).mappings p → (row : RowName) → under p row ≡ true → (q : Piece) → owner_of image row.map row.key ≡ Some q → p ≡ q
+  owner_one p has row inside q is =
+      let both = and_parts (same p.map row.map) (contains p.span row.key) inside in
+      let s = owner_stands (global image).maps (global image).mappings (sound_mappings image sound).placed row.map row.key q is in
+      (sound_mappings image sound).disjoint p q has s.0 (same_is p.map row.map both.0 ∙ sym s.1) (overlaps_shared p.span q.span row.key both.1 s.2)
+
+  -- A mapping under which no row stands at its site: no row of the state is under it.
+  module _ (p : Piece) (has : HasPiece (global image).mappings p) (never : (row : RowName) (bytes : Text) → under p row ≡ true → map.get (rows_at image p.location) row ≡ Some bytes → ⊥) where
+    at_owner : (row : RowName) (bytes : Text) → under p row ≡ true → (o : Option Piece) → owner_of image row.map row.key ≡ o
         → option_and_then (λ (q : Piece). cond (is_attached_at image.locations (global image).away q.location) (map.get (rows_at image q.location) row) None) o ≡ Some bytes → ⊥
     at_owner row bytes inside None is h = absurd cc
-    at_owner row bytes inside (Some q) is h =
-        let both = and_parts (same p.map row.map) (contains p.span row.key) inside in
-        let s = owner_stands (global image).maps (global image).mappings (sound_mappings image sound).placed row.map row.key q is in
-        let one : p ≡ q = (sound_mappings image sound).disjoint p q has s.0 (same_is p.map row.map both.0 ∙ sym s.1) (overlaps_shared p.span q.span row.key both.1 s.2) in
-        gone row bytes inside (ap (λ (x : Piece). map.get (rows_at image x.location) row) one ∙ held_bytes (is_attached_at image.locations (global image).away q.location) (map.get (rows_at image q.location) row) bytes h)
+    at_owner row bytes inside (Some q) is h = never row bytes inside
+        (ap (λ (x : Piece). map.get (rows_at image x.location) row) (owner_one p has row inside q is) ∙ held_bytes (is_attached_at image.locations (global image).away q.location) (map.get (rows_at image q.location) row) bytes h)
 
-    -- has none in the state either
-    no_row : list_any under (map.keys (meaning image).rows) ≡ false
-    no_row = by (list_any under (map.keys (meaning image).rows)) refl
+    no_row : list_any (under p) (map.keys (meaning image).rows) ≡ false
+    no_row = by (list_any (under p) (map.keys (meaning image).rows)) refl
       where
-        by : (b : Bool) → list_any under (map.keys (meaning image).rows) ≡ b → b ≡ false
+        by : (b : Bool) → list_any (under p) (map.keys (meaning image).rows) ≡ b → b ≡ false
         by false e = refl
         by true e =
-            let r = key_of_any under (map.entries (meaning image).rows) e in
+            let r = key_of_any (under p) (map.entries (meaning image).rows) e in
             absurd (at_owner r.0.0 r.0.1 r.2 (owner_of image r.0.0.map r.0.0.key) refl (sym (get-rows image r.0.0) ∙ entry_stands row_cmp rows_total (meaning image).rows r.0 r.1))
+
+    none_present : mapping_of A name key ≡ Some p → if_there (λ (p : Piece). list_any (λ (row : RowName). same p.map row.map && contains p.span row.key) (map.keys (meaning image).rows)) (mapping_of A name key) ≡ false
+    none_present is = ap (if_there (λ (p : Piece). list_any (λ (row : RowName). same p.map row.map && contains p.span row.key) (map.keys (meaning image).rows))) is ∙ no_row
+
+  -- a mapping that is offline
+  is_offline : (p : Piece) → mapping_of A name key ≡ Some p → p.status ≡ Offline → if_there (λ (p : Piece). same_status Online p.status) (mapping_of A name key) ≡ false
+  is_offline p is offline = ap (if_there (λ (p : Piece). same_status Online p.status)) is ∙ ap (same_status Online) offline
 
   delete_accepted : (session : ℕ) (token : Option Token) → IsOwnOf A (command.Delete name key token) None image op → Opens token op → refusal A session (command.Delete name key token) ≡ None
   unfolding refusal
@@ -351,14 +366,96 @@ module _ (image : Image) (sound : Sound image) (op : Op) (logged : HasLog (globa
       let t = over_key (λ p. (p ∷ [], [])) own in
       let among : IsOneOf (listed op.olds) t.piece = subst (λ ps. IsOneOf ps t.piece) (sym t.own.0) (inl refl) in
       let shape : HasShape (rows_at image) (t.piece ∷ []) [] = subst (λ ps. HasShape (rows_at image) (t.piece ∷ []) ps) t.own.1 (subst (λ ps. HasShape (rows_at image) ps (listed op.news)) t.own.0 law.shape) in
-      let offline : if_there (λ (p : Piece). same_status Online p.status) (mapping_of A name key) ≡ false = ap (if_there (λ (p : Piece). same_status Online p.status)) t.is ∙ ap (same_status Online) shape.0 in
-      let empty : if_there (λ (p : Piece). list_any (λ (row : RowName). same p.map row.map && contains p.span row.key) (map.keys (meaning image).rows)) (mapping_of A name key) ≡ false =
-      ap (if_there (λ (p : Piece). list_any (λ (row : RowName). same p.map row.map && contains p.span row.key) (map.keys (meaning image).rows))) t.is ∙ no_row t.piece (fit.stand t.piece among) shape.1 in
+      let never : (row : RowName) (bytes : Text) → under t.piece row ≡ true → map.get (rows_at image t.piece.location) row ≡ Some bytes → ⊥ =
+      λ row bytes inside h. none-some bytes (sym (map.get-empty row_cmp row) ∙ ap (λ m. map.get m row) (sym shape.1) ∙ get_under (rows_at image t.piece.location) t.piece row inside ∙ h) in
       all_pass (checks A session (command.Delete name key token))
-      (stands t.piece t.is, (has_key t.piece t.is, (has_mapping t.piece t.is, (not_detached t.piece t.is among, (not_suspect t.piece t.is among, (unlocked t.piece t.is among token opens, (offline, (empty, tt))))))))
+      (stands t.piece t.is, (has_key t.piece t.is, (has_mapping t.piece t.is, (not_detached t.piece t.is among, (not_suspect t.piece t.is among, (unlocked t.piece t.is among token opens, (is_offline t.piece t.is shape.0, (none_present t.piece (fit.stand t.piece among) never t.is, tt))))))))
 
   pub delete_at_commit : (session : ℕ) (token : Option Token) → IsOwnOf A (command.Delete name key token) None image op → Opens token op → FollowsAtCommit session (command.Delete name key token) image op connections connections
   delete_at_commit session token own opens = record {
     held = holds_nothing;
     step = ap (refused_or_done holds_nothing A session (command.Delete name key token)) (delete_accepted session token own opens) ∙ ap (λ (s : PlainState). (s, reply.Ok)) (state_after (command.Delete name key token) opens.no_job own);
+  }
+
+  -- ---- `move`
+
+  -- An operation that puts no job and replaces one mapping by one is a step of none.
+  step_of_none : (p n : Piece) → listed op.olds ≡ p ∷ [] → listed op.news ≡ n ∷ [] → op.extra ≡ extra.None → (job : JobRow) → HasJob (global image).jobs job → job_of_pieces (global image).jobs (listed op.olds) ≡ Some job → ⊥
+  step_of_none p n olds news none job stands e = by (subst (IsOfJob (read_tables image) op) e law.job)
+    where
+      two_one : (a b c : Piece) → listed op.olds ≡ a ∷ b ∷ [] → ⊥
+      two_one a b c is = let f : p ∷ [] ≡ a ∷ b ∷ [] = sym olds ∙ is in cc
+
+      one_two : (a b : Piece) → listed op.news ≡ a ∷ b ∷ [] → ⊥
+      one_two a b is = let f : n ∷ [] ≡ a ∷ b ∷ [] = sym news ∙ is in cc
+
+      puts : (now : JobRow) → op.extra ≡ extra.JobPut now → ⊥
+      puts now is = let f : extra.None ≡ extra.JobPut now = sym none ∙ is in cc
+
+      of_kind : StepKind (global image).maps (global image).mappings job (listed op.olds) (listed op.news) op.extra → ⊥
+      of_kind (Merging m) = two_one m.low m.high m.whole m.old_are
+      of_kind (Splitting s) = one_two s.low s.high s.new_are
+      of_kind (Batching b) = puts b.now b.put_is
+
+      by : IsStepOf (read_tables image) job op → ⊥
+      by s = of_kind (step_kind (global image).maps (global image).mappings (sound_mappings image sound) (global image).shards (next_job image) job (sound.jobs job stands) (listed op.olds) (listed op.news) op.extra image.locations (global image).away (sound.progress job stands) s.row)
+
+  module _ (location : Text) (p : Piece) (is : mapping_of A name key ≡ Some p) (olds : listed op.olds ≡ p ∷ []) (news : listed op.news ≡ with_location location p ∷ []) (none : op.extra ≡ extra.None) where
+    moved_old : IsOneOf (listed op.olds) p
+    moved_old = subst (λ ps. IsOneOf ps p) (sym olds) (inl refl)
+
+    moved_new : IsOneOf (listed op.news) (with_location location p)
+    moved_new = subst (λ ps. IsOneOf ps (with_location location p)) (sym news) (inl refl)
+
+    moves : Moves (rows_at image) p (with_location location p)
+    moves = by (subst (λ ps. HasShape (rows_at image) (p ∷ []) ps) news (subst (λ ps. HasShape (rows_at image) ps (listed op.news)) olds law.shape))
+      where
+        by : HasShape (rows_at image) (p ∷ []) (with_location location p ∷ []) → Moves (rows_at image) p (with_location location p)
+        by (inl t) = absurd (t.other refl)
+        by (inr m) = m
+
+    target : IsAttachedIn image location
+    target = new_attached image op law (with_location location p) moved_new
+
+    -- no row is under it: it would be at the target too, which owns none of its keys, and in no batch of a job
+    never_there : (row : RowName) (bytes : Text) → under p row ≡ true → map.get (rows_at image p.location) row ≡ Some bytes → ⊥
+    never_there row bytes inside h =
+        let there : map.get (rows_at image location) row ≡ Some bytes =
+        sym (get_under (rows_at image location) p row inside) ∙ ap (λ m. map.get m row) moves.same_rows ∙ get_under (rows_at image p.location) p row inside ∙ h in
+        let both = and_parts (same p.map row.map) (contains p.span row.key) inside in
+        let in_hull = and_from (same row.map op.map) (contains op.hull row.key)
+        (subst (λ n. same n op.map ≡ true) (same_is p.map row.map both.0) (subst (λ n. same p.map n ≡ true) (fit.old_map p moved_old) (same_self p.map))) (fit.shaped.old_in p moved_old row.key both.1) in
+        elim ((sound.rows location target).placed row (ap is_some there)) [
+          | inl w ↦ moves.elsewhere (sym w.2 ∙ ap (λ (x : Piece). x.location) (sym (owner_one p (fit.stand p moved_old) row inside w.0 w.1)))
+          | inr v ↦ batch_outside image sound op law v.job v.stands (step_of_none p (with_location location p) olds news none v.job v.stands) row in_hull v.of_map v.in_batch v.of_type
+        ]
+
+    shard_there : not (set.contains (global image).shards (name, location)) ≡ false
+    shard_there = ap not (ap (λ n. set.contains (global image).shards (n, location)) (sym (of_name p is) ∙ fit.new_map (with_location location p) moved_new)
+        ∙ all_at (λ (n : Piece). IsTrue (set.contains (global image).shards (op.map, n.location))) (listed op.news) law.on_shards (with_location location p) moved_new)
+
+    other_site : if_there (λ (p : Piece). same p.location location) (mapping_of A name key) ≡ false
+    other_site = ap (if_there (λ (p : Piece). same p.location location)) is ∙ by (same p.location location) refl
+      where
+        by : (b : Bool) → same p.location location ≡ b → b ≡ false
+        by false e = refl
+        by true e = absurd (moves.elsewhere (sym (same_is p.location location e)))
+
+  move_accepted : (session : ℕ) (location : Text) (token : Option Token) → IsOwnOf A (command.Move name key location token) None image op → Opens token op → refusal A session (command.Move name key location token) ≡ None
+  unfolding refusal
+  move_accepted session location token own opens =
+      let t = over_key (λ p. (p ∷ [], with_location location p ∷ [])) own in
+      let among = moved_old location t.piece t.is t.own.0 t.own.1 opens.no_job in
+      let here = target location t.piece t.is t.own.0 t.own.1 opens.no_job in
+      let away = not_away (map.get (global image).away location) here.attached in
+      all_pass (checks A session (command.Move name key location token))
+      (stands t.piece t.is, (has_key t.piece t.is, (has_mapping t.piece t.is, (not_detached t.piece t.is among, (not_suspect t.piece t.is among, (unlocked t.piece t.is among token opens,
+      (ap not here.known, (shard_there location t.piece t.is t.own.0 t.own.1 opens.no_job, (away.0, (away.1, (other_site location t.piece t.is t.own.0 t.own.1 opens.no_job,
+      (is_offline t.piece t.is (moves location t.piece t.is t.own.0 t.own.1 opens.no_job).offline,
+      (none_present t.piece (fit.stand t.piece among) (never_there location t.piece t.is t.own.0 t.own.1 opens.no_job) t.is, tt)))))))))))))
+
+  pub move_at_commit : (session : ℕ) (location : Text) (token : Option Token) → IsOwnOf A (command.Move name key location token) None image op → Opens token op → FollowsAtCommit session (command.Move name key location token) image op connections connections
+  move_at_commit session location token own opens = record {
+    held = holds_nothing;
+    step = ap (refused_or_done holds_nothing A session (command.Move name key location token)) (move_accepted session location token own opens) ∙ ap (λ (s : PlainState). (s, reply.Ok)) (state_after (command.Move name key location token) opens.no_job own);
   }
