@@ -140,7 +140,10 @@ fn one_that_was_committed_stays(rt: HostRuntime) -> Result<(), Fail> {
         let (before, after, written) = opened_after(rt.alloc(), stages)?;
         assert_eq!(rt; before, 0);
         assert_eq!(rt; after, 0);
-        assert_eq!(rt; written.as_slice(), b"mappings 1\n0 10 s/a online\n".as_slice());
+        assert_eq!(rt;
+            written.as_slice(),
+            b"mappings 1\n0 10 s/a online\n".as_slice()
+        );
     }
     Ok(())
 }

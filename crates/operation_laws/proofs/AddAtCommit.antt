@@ -55,11 +55,11 @@ use Rattle.operation_laws.specs.Entries.{FollowsAtCommit, IsAdding}
 
 -- ---- checks that all pass
 
-abbrev AllPass : List Check → Type 0
+abbrev pub AllPass : List Check → Type 0
 AllPass [] = Unit {0}
 AllPass (c ∷ cs) = (c.0 ≡ false) × AllPass cs
 
-all_pass : (cs : List Check) → AllPass cs → first_refusal cs ≡ None
+pub all_pass : (cs : List Check) → AllPass cs → first_refusal cs ≡ None
 all_pass [] h = refl
 all_pass (c ∷ cs) h = ap (λ b. cond b (Some c.1) (first_refusal cs)) h.0 ∙ all_pass cs h.1
 
@@ -72,12 +72,12 @@ none_of p (x ∷ xs) e = by (p x) e (none_of p xs)
     by true e more = absurd cc
     by false e more = more e
 
-not_away : (a : Option Away) → is_attached a ≡ true → (is_detached a ≡ false) × (is_suspect a ≡ false)
+pub not_away : (a : Option Away) → is_attached a ≡ true → (is_detached a ≡ false) × (is_suspect a ≡ false)
 not_away None h = (refl, refl)
 not_away (Some a) h = absurd cc
 
 -- what is a range of a kind of map is one of a range map, and isn't empty; a point is one of a list map
-range_of_kind : (k : MapKind) (type : KeyType) (low : Text) (high : High) → is_span_of k type (Range low high) ≡ true → (k ≡ kind.Range) × (before low high ≡ true)
+pub range_of_kind : (k : MapKind) (type : KeyType) (low : Text) (high : High) → is_span_of k type (Range low high) ≡ true → (k ≡ kind.Range) × (before low high ≡ true)
 range_of_kind kind.Range type low high h = (refl, (and_parts _ _ (and_parts _ _ h).1).1)
 range_of_kind kind.List type low high h = absurd cc
 

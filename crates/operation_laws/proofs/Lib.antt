@@ -8,8 +8,10 @@ pub mod Done
 pub mod Entries
 pub mod Exchanges
 pub mod FirstImage
+pub mod Full
 pub mod Left
 pub mod Lifts
+pub mod MappingAtCommit
 pub mod OwnSteps
 pub mod Pending
 pub mod Reaches

@@ -4,4 +4,5 @@ pub mod Forward
 pub mod Leading
 pub mod Left
 pub mod LiveNumbers
+pub mod Opening
 pub mod Planned

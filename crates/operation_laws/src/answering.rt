@@ -12,6 +12,7 @@ ghost use Rattle.cell_world.specs.declared.operations.StageName.TheVariants.{Tar
 ghost use Rattle.global_tables.specs.declared.faults.StepFault.{StepFault};
 ghost use Rattle.plain_model.specs.declared.commands.Command.{Command};
 ghost use Rattle.plain_model.specs.declared.replies.Reply.TheVariants as reply;
+ghost use Rattle.plain_model.specs.declared.replies.Refusal.TheVariants as refused;
 ghost use Rattle.plain_model.specs.declared.history.Entry.{Entry};
 ghost use Rattle.plain_model.specs.JobSteps.{asked_number};
 ghost use Rattle.plain_model.specs.OnTrail.{reach_of_command};
@@ -129,4 +130,16 @@ pub fn pending_answers()
         e.operation ≡ 0 → e.reply ≡ Some (reply.Pending other.number) → (other.number ≡ 0 → ⊥) → asked_number e.command ≡ None → refusal (with_connections (meaning image) connections) e.session e.command ≡ None →
         (next : AllDoing) → IsThen doing e.session (Resting left) next → CoreAlone Needs first (record { entry = e; before = meaning image } ∷ past) connections image next }
     ensures numbered { (live : List ℕ) (op made : Op) (stage : Stage) (image : Image) (hs : List Happening) → Begins live op (Ok (Going made stage)) image hs → Sound image → Lawful image op → next_operation image < 2 ^ 63 → made.number ≡ 0 → ⊥ }
+{}
+
+/// No operation number is left: the entry `full` of a command that isn't refused otherwise.
+pub fn full_answers()
+    ensures on_trail { (since : ℕ) (start : Image) (mode : Mode) (past : Timeline) (connections : Connections) (doing : AllDoing) → Core Needs since start mode past connections [] doing →
+        (e : Entry) (left : Option Op) → doing e.session ≡ Working e.command left → e.operation ≡ 0 → e.reply ≡ Some (reply.Refused refused.Full) →
+        IsOneOperation e.command → refusal (with_connections (meaning (image_of start past)) connections) e.session e.command ≡ None → next_operation (image_of start past) ≡ 2 ^ 63 → e.moment ≡ since + length (happened_of past) →
+        (next : AllDoing) → IsThen doing e.session (Resting left) next → Core Needs since start mode (Entered e ∷ past) connections (text_of mode e) next }
+    ensures alone { (first : Image) (past : Past) (connections : Connections) (image : Image) (doing : AllDoing) → CoreAlone Needs first past connections image doing →
+        (e : Entry) (left : Option Op) → doing e.session ≡ Working e.command left → e.operation ≡ 0 → e.reply ≡ Some (reply.Refused refused.Full) →
+        IsOneOperation e.command → refusal (with_connections (meaning image) connections) e.session e.command ≡ None →
+        (next : AllDoing) → IsThen doing e.session (Resting left) next → CoreAlone Needs first (record { entry = e; before = meaning image } ∷ past) connections image next }
 {}
