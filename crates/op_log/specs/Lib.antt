@@ -1,2 +1,3 @@
+pub mod JobChanges
 pub mod ShortChanges
 pub mod Sites
