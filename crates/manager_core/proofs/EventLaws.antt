@@ -33,7 +33,7 @@ use Rattle.session_laws.specs.Contract.{Seen, at_rest, CoreOn, CoreGoesOn, Keeps
 use Rattle.session_laws.proofs.ContractLaws.{core_wrote, core_answered, core_committed, core_entered_to}
 use Rattle.manager_core.specs.Answering.{NoLog, Relies, RefusesExactly, AnswersAt, CommitsAt, AnswersShort, IsCopy, KeepsCopy, WritesText}
 use Rattle.manager_core.specs.Cores.{IsReady}
-use Rattle.manager_core.specs.Events.{Parts, Enters, stop_after}
+use Rattle.manager_core.specs.Events.{Parts, Enters, TriesOnce, WritesOnce, front_of, stop_after}
 use Rattle.manager_core.specs.declared.manager.StopCause.{StopCause}
 use Rattle.manager_core.proofs.Copies.{relies, copy_written, log_answered, log_written}
 
@@ -199,16 +199,38 @@ rose_later a b c rose up = omega (arith, rose, up)
 pub rose_before : (a b c : ℕ) → a ≤ b → Rose b c → Rose a c
 rose_before a b c up rose = omega (arith, rose, up)
 
+-- a short command makes one transaction at most
+tries_once : (known : Known) (old new : Told) (c : Command) (r : Reply) → AnswersShort known old new c r → TriesOnce old new
+tries_once known old new c r answers = ⊎_elim (λ same. inl same.0) (λ commits. inr (commits.change, commits.took, commits.told)) answers
+
+-- what the writing answered wrote
+abbrev written_by : (old new : Told) (bytes : Text) (result : Result (Unit {0}) WorldError) → WritesText old new bytes result → Option Text
+written_by old new bytes (Ok done) writes = Some bytes
+written_by old new bytes (Err error.Failed) writes = Some (take writes.0 bytes)
+written_by old new bytes (Err error.Memory) writes = None
+
+writes_once : (old new : Told) (bytes : Text) (result : Result (Unit {0}) WorldError) (writes : WritesText old new bytes result) → WritesOnce (written_by old new bytes result writes) old new
+writes_once old new bytes (Ok done) writes = writes
+writes_once old new bytes (Err error.Failed) writes = writes.1
+writes_once old new bytes (Err error.Memory) writes = writes
+
 module _ (tagged : Bool) (session : ℕ) (c : Command) (short : is_short c ≡ true) (r : Reply) (word : is_short_reply r ≡ true) (moment : ℕ) (old mid new : Outside) (known fresh : Known) (before history : List Entry) (stop : Option StopCause)
     (answers : AnswersShort known old.told mid.told c r) (now : IfTrail mid.told (λ trail. moment ≡ end_of_trail trail)) (added : history ≡ before ++ short_entry session c r moment ∷ [])
     (cause : r ≡ reply.Fault → Rose (old.faults_at 0) (mid.faults_at 0)) (later : IsLater mid new) (running : stop ≡ None) where
   abbrev pub old_parts : Parts
   old_parts = record { outside = old; history = before; known = known; stop = stop }
 
-  enters_with : (next : Option StopCause) (rest : Text) (result : Result (Unit {0}) WorldError) → WritesText mid.told new.told (reply_lines (tag_of tagged session) r) result
+  -- the lines of the reply
+  abbrev lines_of : Text
+  lines_of = reply_lines (tag_of tagged session) r
+
+  enters_with : (next : Option StopCause) (rest : Text) (result : Result (Unit {0}) WorldError) (writes : WritesText mid.told new.told lines_of result)
+      → front_of (written_by mid.told new.told lines_of result writes) ++ rest ≡ lines_of
       → (IfContents old.told NoLog → IsCopy known old.told → KeepsCore (EachReply tagged) old.told (at_rest before) new.told (at_rest (before ++ short_entry session c r moment ∷ [])) rest)
-      → Enters tagged session c r old_parts (record { outside = new; history = history; known = fresh; stop = next }) rest
-  enters_with next rest result writes keeps = record {
+      → Enters tagged session c r old_parts (record { outside = new; history = history; known = fresh; stop = next }) (written_by mid.told new.told lines_of result writes) rest
+  enters_with next rest result writes split keeps = record {
+    lines = split;
+    happens = record { between = mid.told; tries = tries_once known old.told mid.told c r answers; writes = writes_once mid.told new.told lines_of result writes };
     entered = record { entry = short_entry session c r moment; of_session = refl; command = refl; answered = refl; operation = refl; added = added };
     keeps = λ ready. subst (λ es. KeepsCore (EachReply tagged) old.told (at_rest before) new.told (at_rest es) rest) (sym added) (keeps ready.no_log (ready.copy running));
     keeps_to = λ ready. subst (λ es. KeepsCoreTo old.told (at_rest before) new.told (at_rest es)) (sym added)
@@ -220,17 +242,17 @@ module _ (tagged : Bool) (session : ℕ) (c : Command) (short : is_short c ≡ t
   nothing_left : (text : Text) → text ++ [] ≡ text
   nothing_left = Rattle.std.proofs.lemmas.List.append-nil
 
-  pub enters_written : (next : Option StopCause) → WritesText mid.told new.told (reply_lines (tag_of tagged session) r) (Ok tt) → Enters tagged session c r old_parts (record { outside = new; history = history; known = fresh; stop = next }) []
-  enters_written next writes = enters_with next [] (Ok tt) writes
+  pub enters_written : (next : Option StopCause) → WritesText mid.told new.told (reply_lines (tag_of tagged session) r) (Ok tt) → Enters tagged session c r old_parts (record { outside = new; history = history; known = fresh; stop = next }) (Some lines_of) []
+  enters_written next writes = enters_with next [] (Ok tt) writes (nothing_left lines_of)
       (λ none copy. wrote_on tagged session c short r word moment before known old.told mid.told new.told answers now none copy (reply_lines (tag_of tagged session) r) [] (nothing_left (reply_lines (tag_of tagged session) r)) writes)
 
-  pub enters_partly : (next : Option StopCause) (writes : WritesText mid.told new.told (reply_lines (tag_of tagged session) r) (Err error.Failed)) → Enters tagged session c r old_parts (record { outside = new; history = history; known = fresh; stop = next }) (drop writes.0 (reply_lines (tag_of tagged session) r))
-  enters_partly next writes = enters_with next (drop writes.0 (reply_lines (tag_of tagged session) r)) (Err error.Failed) writes
+  pub enters_partly : (next : Option StopCause) (writes : WritesText mid.told new.told (reply_lines (tag_of tagged session) r) (Err error.Failed)) → Enters tagged session c r old_parts (record { outside = new; history = history; known = fresh; stop = next }) (Some (take writes.0 lines_of)) (drop writes.0 lines_of)
+  enters_partly next writes = enters_with next (drop writes.0 lines_of) (Err error.Failed) writes (take-append-drop writes.0 lines_of)
       (λ none copy. wrote_on tagged session c short r word moment before known old.told mid.told new.told answers now none copy (take writes.0 (reply_lines (tag_of tagged session) r)) (drop writes.0 (reply_lines (tag_of tagged session) r))
       (take-append-drop writes.0 (reply_lines (tag_of tagged session) r)) writes.1)
 
-  pub enters_unwritten : (next : Option StopCause) → WritesText mid.told new.told (reply_lines (tag_of tagged session) r) (Err error.Memory) → Enters tagged session c r old_parts (record { outside = new; history = history; known = fresh; stop = next }) (reply_lines (tag_of tagged session) r)
-  enters_unwritten next writes = enters_with next (reply_lines (tag_of tagged session) r) (Err error.Memory) writes
+  pub enters_unwritten : (next : Option StopCause) → WritesText mid.told new.told (reply_lines (tag_of tagged session) r) (Err error.Memory) → Enters tagged session c r old_parts (record { outside = new; history = history; known = fresh; stop = next }) None lines_of
+  enters_unwritten next writes = enters_with next lines_of (Err error.Memory) writes refl
       (λ none copy. wrote_none tagged session c short r word moment before known old.told mid.told new.told answers now none copy writes)
 
 -- ---- it is ready for the next

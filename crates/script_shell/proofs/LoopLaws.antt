@@ -131,7 +131,7 @@ module _ (script : List Asked) (asked : Asked) (rest left : List Asked) (old mid
   done_more : script ≡ (so.done ++ asked ∷ []) ++ rest
   done_more = so.split ∙ ap (λ others. so.done ++ others) next ∙ sym (append_assoc so.done (asked ∷ []) rest)
 
-  module _ (r : Reply) (unwritten : Text) (enters : Enters false asked.session asked.command r mid new unwritten) where
+  module _ (r : Reply) (written : Option Text) (unwritten : Text) (enters : Enters false asked.session asked.command r mid new written unwritten) where
     abbrev added : IsEntered asked.session asked.command r mid.history new.history
     added = enters.entered
 
@@ -189,16 +189,16 @@ module _ (script : List Asked) (asked : Asked) (rest left : List Asked) (old mid
           record {
             done = so.done ++ asked ∷ [];
             split = done_more;
-            answered = answered_more r [] c.3;
+            answered = answered_more r _ [] c.3;
             goes = c.2 ∙ no_stop r (ap fault_sort (sym c.1) ∙ no_fault) (ap memory_sort (sym c.1) ∙ no_memory);
             ready = λ begun. ready (so.ready begun);
-            keeps = keeps_more r [] c.3;
-            keeps_to = keeps_to_more r [] c.3;
+            keeps = keeps_more r _ [] c.3;
+            keeps_to = keeps_to_more r _ [] c.3;
             later = later_then old.outside mid.outside new.outside so.later later;
-            no_fault = count_more r [] c.3 is_fault ∙ (λ i. so.no_fault i + cond (clear i) 1 0);
-            no_memory = count_more r [] c.3 is_memory ∙ (λ i. so.no_memory i + cond (enough i) 1 0);
+            no_fault = count_more r _ [] c.3 is_fault ∙ (λ i. so.no_fault i + cond (clear i) 1 0);
+            no_memory = count_more r _ [] c.3 is_memory ∙ (λ i. so.no_memory i + cond (enough i) 1 0);
             some_refused = or_is refused (refused_sort s) (replies_of counts_as_refused mid.history) so.some_refused
-                ∙ ap (λ b. nat_lt 0 (replies_of counts_as_refused mid.history + cond b 1 0)) (sym (refused_by_sort r ∙ ap refused_sort (sym c.1))) ∙ ap (nat_lt 0) (sym (count_more r [] c.3 counts_as_refused));
+                ∙ ap (λ b. nat_lt 0 (replies_of counts_as_refused mid.history + cond b 1 0)) (sym (refused_by_sort r ∙ ap refused_sort (sym c.1))) ∙ ap (nat_lt 0) (sym (count_more r _ [] c.3 counts_as_refused));
           }
 
       by : (outcome : Outcome) → stop_of outcome ≡ None → Comes false asked.session asked.command mid new outcome → SoFar script rest old new (refused || refuses outcome)
@@ -287,23 +287,23 @@ ends_stopped script asked rest left old mid new refused none goes copy so next o
     onward = later_then old.outside mid.outside new.outside so.later later
 
     -- an entry was added, with all lines written or a rest
-    entered : (r : Reply) (unwritten : Text) (ending : RunStatus) → Enters false asked.session asked.command r mid new unwritten
+    entered : (r : Reply) (written : Option Text) (unwritten : Text) (ending : RunStatus) → Enters false asked.session asked.command r mid new written unwritten
         → (unwritten ≡ []) ⊎ (has_stopped ending ≡ true) → is_done ending ≡ false → did_nothing ending ≡ false → Runs script old.outside new.outside new.history ending
-    entered r unwritten ending enters written not_done did =
+    entered r some unwritten ending enters written not_done did =
         finished script (so.done ++ asked ∷ []) rest old new unwritten ending none goes copy (done_more script asked rest left old mid new refused so next)
-        (answered_more script asked rest left old mid new refused so next r unwritten enters)
-        (keeps_more script asked rest left old mid new refused so next r unwritten enters) (ends written)
-        (keeps_to_more script asked rest left old mid new refused so next r unwritten enters) onward
+        (answered_more script asked rest left old mid new refused so next r some unwritten enters)
+        (keeps_more script asked rest left old mid new refused so next r some unwritten enters) (ends written)
+        (keeps_to_more script asked rest left old mid new refused so next r some unwritten enters) onward
         (λ done. let no : true ≡ false = sym done ∙ not_done in absurd cc) (few (is_fault r) refl)
-        (memory_more script asked rest left old mid new refused so next r unwritten enters)
-        (fault_more script asked rest left old mid new refused so next r unwritten enters) did
+        (memory_more script asked rest left old mid new refused so next r some unwritten enters)
+        (fault_more script asked rest left old mid new refused so next r some unwritten enters) did
       where
         ends : (unwritten ≡ []) ⊎ (has_stopped ending ≡ true) → EndsWritten unwritten ending new.history
         ends (inl nothing) = inl nothing
-        ends (inr stops) = inr (stops, ends_more script asked rest left old mid new refused so next r unwritten enters)
+        ends (inr stops) = inr (stops, ends_more script asked rest left old mid new refused so next r some unwritten enters)
 
         counted : faults new.history ≡ cond (is_fault r) 1 0
-        counted = faults_more script asked rest left old mid new refused so next r unwritten enters
+        counted = faults_more script asked rest left old mid new refused so next r some unwritten enters
 
         is_one : (r : Reply) → is_fault r ≡ true → r ≡ reply.Fault
         is_one reply.Fault is = refl
@@ -324,9 +324,9 @@ ends_stopped script asked rest left old mid new refused none goes copy so next o
     by_fault : Comes false asked.session asked.command mid new (Ended sort.Fault) → Ends script old new status.StoreFault
     by_fault c =
         let fault : c.0 ≡ reply.Fault = a_fault c.0 (sym c.1) in
-        let one : faults new.history ≡ 1 = faults_more script asked rest left old mid new refused so next c.0 [] c.3 ∙ ap (λ r. cond (is_fault r) 1 0) fault in
-        let enough : replies_of is_memory new.history ≡ 0 = count_more script asked rest left old mid new refused so next c.0 [] c.3 is_memory ∙ (λ i. so.no_memory i + cond (is_memory (fault i)) 1 0) in (
-          entered c.0 [] status.StoreFault c.3 (inl refl) refl refl,
+        let one : faults new.history ≡ 1 = faults_more script asked rest left old mid new refused so next c.0 _ [] c.3 ∙ ap (λ r. cond (is_fault r) 1 0) fault in
+        let enough : replies_of is_memory new.history ≡ 0 = count_more script asked rest left old mid new refused so next c.0 _ [] c.3 is_memory ∙ (λ i. so.no_memory i + cond (is_memory (fault i)) 1 0) in (
+          entered c.0 _ [] status.StoreFault c.3 (inl refl) refl refl,
           (store_rose_one old.outside new.outside onward.faults (omega (arith, so.later.faults 0, c.3.fault fault)), inl (omega (arith, one)), enough),
           refl,
         )
@@ -335,9 +335,9 @@ ends_stopped script asked rest left old mid new refused none goes copy so next o
     by (Ended sort.Good) is c = absurd cc
     by (Ended sort.Refused) is c = absurd cc
     by (Ended sort.Fault) is c = subst (Ends script old new) (is_ending status.StoreFault is) (by_fault c)
-    by (Ended sort.Memory) is c = subst (Ends script old new) (is_ending status.Memory is) (entered c.0 [] status.Memory c.3 (inl refl) refl refl, tt, refl)
+    by (Ended sort.Memory) is c = subst (Ends script old new) (is_ending status.Memory is) (entered c.0 _ [] status.Memory c.3 (inl refl) refl refl, tt, refl)
     by (Going number) is c = absurd c
     by (Stopped cause.Sink) is c = subst (Ends script old new) (is_ending status.WriteFault is)
-        (entered c.0 c.3.0 status.WriteFault c.3.1 (inr refl) refl refl, (omega (arith, so.later.sink, c.2), ends_more script asked rest left old mid new refused so next c.0 c.3.0 c.3.1), refl)
-    by (Stopped cause.Memory) is c = subst (Ends script old new) (is_ending status.Memory is) (entered c.0 c.2.0 status.Memory c.2.1 (inr refl) refl refl, tt, refl)
+        (entered c.0 _ c.3.1 status.WriteFault c.3.2 (inr refl) refl refl, (omega (arith, so.later.sink, c.2), ends_more script asked rest left old mid new refused so next c.0 _ c.3.1 c.3.2), refl)
+    by (Stopped cause.Memory) is c = subst (Ends script old new) (is_ending status.Memory is) (entered c.0 _ _ status.Memory c.2 (inr refl) refl refl, tt, refl)
     by (Stopped cause.Store) is c = absurd c

@@ -37,6 +37,7 @@ returns-in-Err-Failed-clause-comes g c =
       rose_before (g.W.World.outside c.args.self.now.world).sink_faults (g.W.World.outside answer.new.world).sink_faults (g.W.World.outside c.write_lines.new.world).sink_faults answer.ensures.later.sink (c.in-Err-Failed.ensures.cause (ap Err c.in-Err-Failed.field-0-is)),
       (
         _,
+        _,
         enters_partly c.args.tagged c.args.session c.args.command (planned_is_short _ c.requires.planned) answer.result.reply answer.ensures.short c.moment-moment.result _ _ _ _ _ _ _ _
             answer.ensures.answers c.moment-moment.ensures added answer.ensures.cause c.write_lines.ensures.later c.requires.goes _ writes,
       ),
@@ -56,11 +57,8 @@ returns-clause-comes g c =
     let writes = subst (λ t. WritesText (g.W.World.outside answer.new.world).told (g.W.World.outside c.write_lines.new.world).told (reply_lines t answer.result.reply) (Err error.Memory)) c.tag_of-tag.ensures failed in (
       answer.result.reply,
       refl,
-      (
-        _,
-        enters_unwritten c.args.tagged c.args.session c.args.command (planned_is_short _ c.requires.planned) answer.result.reply answer.ensures.short c.moment-moment.result _ _ _ _ _ _ _ _
-            answer.ensures.answers c.moment-moment.ensures added answer.ensures.cause c.write_lines.ensures.later c.requires.goes _ writes,
-      ),
+      enters_unwritten c.args.tagged c.args.session c.args.command (planned_is_short _ c.requires.planned) answer.result.reply answer.ensures.short c.moment-moment.result _ _ _ _ _ _ _ _
+          answer.ensures.answers c.moment-moment.ensures added answer.ensures.cause c.write_lines.ensures.later c.requires.goes _ writes,
     )
 
 pub returns-clause-ready : goal.returns-clause-ready
