@@ -1,5 +1,5 @@
 -- A site that no logged operation has, and no job in the middle of a batch, is detached: that keeps an image sound.
-use Rattle.std.proofs.Common.{◌≡◌, Bool, true, false, refl, sym, ap, ◌∙◌, subst, Some, None, Option, inl, inr, true≢false}
+use Rattle.std.proofs.Common.{◌≡◌, true, false, refl, sym, ap, ◌∙◌, subst, Some, None, Option, inl, inr, true≢false}
 use Rattle.std.specs.FinMap as map
 use Rattle.std.proofs.lemmas.Bool.{cases_Bool}
 use Rattle.std.proofs.lemmas.Cmp.{nat_list_cmp_total}
@@ -13,8 +13,7 @@ use Rattle.cell_world.specs.Stores.{AwaySites, IsKeyed}
 use Rattle.cell_world.specs.Images.{Image, Place, Global, Shard, global, with_store}
 use Rattle.cell_world.specs.Lawful.{Lawful, read_tables, IsAttached, IsOfJob, job_of_pieces}
 use Rattle.cell_world.specs.Operations.{sites_of, conflicts}
-use Rattle.cell_world.specs.Sound.{Sound, HasJob, HasLog, IsBatch, SuspectSite, IsAttachedIn, IsSuspectIn, IsSiteOfJob}
-use Rattle.cell_world.specs.declared.cells.Away.{Away}
+use Rattle.cell_world.specs.Sound.{Sound, HasJob, HasLog, IsBatch, IsAttachedIn, IsSuspectIn, IsSiteOfJob}
 use Rattle.cell_world.specs.declared.cells.Away.TheVariants as away
 use Rattle.cell_world.specs.declared.operations.Op.{Op}
 use Rattle.cell_world.specs.declared.operations.JobRow.{JobRow}
