@@ -1,3 +1,4 @@
 pub mod JobChanges
+pub mod JobSiteChanges
 pub mod ShortChanges
 pub mod Sites

@@ -1,25 +1,21 @@
 -- The changes of short commands, each with what it reaches and the image that it leaves.
-use Rattle.std.specs.Prelude.{◌≡◌, ◌<◌, ◌^◌, ℕ, Option, Some, None, IfSome}
+use Rattle.std.specs.Prelude.{◌≡◌, ◌<◌, ◌^◌, Option, Some, None, IfSome}
 use Rattle.cell_world.specs.Texts.{Text}
-use Rattle.cell_world.specs.Stores.{Maps, Shards, Tables, Mappings, put, delete}
+use Rattle.cell_world.specs.Stores.{Maps, Shards, Tables, put, delete}
 use Rattle.cell_world.specs.Images.{Image, Global, Shard, global, with_store}
 use Rattle.cell_world.specs.Meaning.{owner_of}
 use Rattle.cell_world.specs.Lawful.{job_with_token}
-use Rattle.cell_world.specs.Sound.{HasPiece, HasJob, HasTable, IsAttachedIn, IsSiteOfJob}
+use Rattle.cell_world.specs.Sound.{HasPiece, HasJob, HasTable, IsAttachedIn}
 use Rattle.cell_world.specs.declared.operations.Piece.{Piece}
 use Rattle.cell_world.specs.declared.operations.JobRow.{JobRow}
 use Rattle.cell_world.specs.declared.operations.Reach.{Reach}
 use Rattle.cell_world.specs.declared.operations.Reach.TheVariants as reach
-use Rattle.cell_world.specs.declared.operations.Phase.TheVariants.{Idle}
 use Rattle.cell_world.specs.declared.cells.RowName.{RowName}
 use Rattle.cell_world.specs.declared.cells.Token.{Token}
 use Rattle.cell_world.specs.declared.cells.Status.TheVariants.{Online}
-use Rattle.cell_world.specs.declared.cells.Away.TheVariants.{Detached}
 use Rattle.cell_world.specs.declared.cells.Cell.TheVariants as cell
 use Rattle.cell_world.specs.declared.cells.CellKey.TheVariants as at
-use Rattle.cell_world.specs.declared.spans.High.{High}
 use Rattle.image_laws.specs.Catalogs.{with_catalog, Serves}
-use Rattle.op_log.specs.JobChanges.{MayBegin, begun_image, IsAtFinish, IsFreed, finished_image}
 
 -- A token that no standing job has, and no job to come: none, or one of at least 2^64.
 abbrev pub IsFreeToken : Option Token → Type 0
@@ -41,9 +37,3 @@ pub data ShortChange (image : Image) (reached : Reach) (after : Image) : Type 0 
   -- `del` deletes one there
   DeleteRow : reached ≡ reach.Nothing → (row : RowName) (p : Piece) → owner_of image row.map row.key ≡ Some p → p.status ≡ Online → IsAttachedIn image p.location →
       after ≡ with_store image (Shard p.location) (delete (image.at (Shard p.location)) (at.Row row)) → ShortChange image reached after
-  -- `job` begins a job that moves a range out of a mapping. It reaches the mapping's span.
-  BeginJob : (p : Piece) → reached ≡ reach.Part p.map p.span → (low : Text) (high : High) (target : Text) (batch : ℕ) → MayBegin image p low high target → after ≡ begun_image image p low high target batch → ShortChange image reached after
-  -- the last step of a job finishes it. It reaches nothing.
-  FinishJob : reached ≡ reach.Nothing → (job : JobRow) → HasJob (global image).jobs job → IsAtFinish image job → (mappings : Mappings) → IsFreed job.number (global image).mappings mappings → after ≡ finished_image image job mappings → ShortChange image reached after
-  -- `detach` detaches a site that no job has which is in the middle of a batch. It reaches the site.
-  Detach : (location : Text) → reached ≡ reach.Whole location → ((job : JobRow) → HasJob (global image).jobs job → IsSiteOfJob location job → job.phase ≡ Idle) → after ≡ with_store image Global (put (global image) (cell.SiteState location Detached)) → ShortChange image reached after

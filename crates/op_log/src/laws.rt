@@ -15,6 +15,7 @@ ghost use Rattle.cell_world.specs.declared.spans.High.{High};
 ghost use Rattle.cell_world.specs.declared.operations.Op.{Op};
 ghost use Rattle.cell_world.specs.declared.operations.Reach.{Reach};
 ghost use Rattle.op_log.specs.JobChanges.{MayBegin, begun_job, of_job, begun_image, IsAtFinish, IsFreed, finished_image};
+ghost use Rattle.op_log.specs.JobSiteChanges.{JobSiteChange};
 ghost use Rattle.op_log.specs.ShortChanges.{ShortChange};
 ghost use Rattle.op_log.specs.Sites.{AreAtMostTwo};
 
@@ -38,6 +39,14 @@ pub fn short_changes_leave_operations_lawful()
     ensures sound { (image : Image) → Sound image → (reach : Reach) (after : Image) → ShortChange image reach after → ((op : Op) → HasLog (global image).log op → operation.conflicts reach op ≡ false) → Sound after }
     ensures log { (image : Image) (reach : Reach) (after : Image) → ShortChange image reach after → (global after).log ≡ (global image).log }
     ensures lawful { (image : Image) → Sound image → (reach : Reach) (after : Image) → ShortChange image reach after → ((op : Op) → HasLog (global image).log op → operation.conflicts reach op ≡ false) →
+        (op : Op) → HasLog (global image).log op → Lawful after op }
+{}
+
+/// So a change that begins or finishes a job, or detaches a site.
+pub fn job_and_site_changes_leave_operations_lawful()
+    ensures sound { (image : Image) → Sound image → (reach : Reach) (after : Image) → JobSiteChange image reach after → ((op : Op) → HasLog (global image).log op → operation.conflicts reach op ≡ false) → Sound after }
+    ensures log { (image : Image) (reach : Reach) (after : Image) → JobSiteChange image reach after → (global after).log ≡ (global image).log }
+    ensures lawful { (image : Image) → Sound image → (reach : Reach) (after : Image) → JobSiteChange image reach after → ((op : Op) → HasLog (global image).log op → operation.conflicts reach op ≡ false) →
         (op : Op) → HasLog (global image).log op → Lawful after op }
 {}
 

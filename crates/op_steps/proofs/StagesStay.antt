@@ -31,7 +31,8 @@ use Rattle.image_laws.proofs.OthersStay.{done_swept, done_born, done_settled, un
 use Rattle.image_laws.proofs.SoundParts.{are_logged, births_apart}
 use Rattle.image_laws.proofs.StepLaws.{unborn_swept}
 use Rattle.image_laws.proofs.UnderWayLaws.{under_way_local, locals_here, locals_elsewhere}
-use Rattle.op_log.specs.ShortChanges.{ShortChange, Catalog, Unshard, Retoken, PutRow, DeleteRow, BeginJob, FinishJob, Detach}
+use Rattle.op_log.specs.ShortChanges.{ShortChange, Catalog, Unshard, Retoken, PutRow, DeleteRow}
+use Rattle.op_log.specs.JobSiteChanges.{JobSiteChange, BeginJob, FinishJob, Detach}
 use Rattle.op_log.proofs.Detaching.{was_attached}
 use Rattle.op_steps.specs.Passing.{changed_at}
 use Rattle.op_steps.specs.Undoing.{UndoStep, AtSite, LogRow}
@@ -191,6 +192,8 @@ short_leaves op name reached image now at (Unshard map_name location r here unma
 short_leaves op name reached image now at (Retoken p has r token old_free new_free is) = subst (AtStage op name) (sym is) (stage_global op image _ (λ x now. now) (λ h. h) (λ e. e) (λ lt. lt) name at)
 short_leaves op name reached image now at (PutRow r row bytes p owned online here tabled is) = subst (AtStage op name) (sym is) (row_leaves op name image p.location _ refl at)
 short_leaves op name reached image now at (DeleteRow r row p owned online here is) = subst (AtStage op name) (sym is) (row_leaves op name image p.location _ refl at)
-short_leaves op name reached image now at (BeginJob p r low high target batch may is) = subst (AtStage op name) (sym is) (stage_global op image _ (λ x now. now) (λ h. h) (λ e. e) (λ lt. lt) name at)
-short_leaves op name reached image now at (FinishJob r job has at_finish mappings freed is) = subst (AtStage op name) (sym is) (stage_global op image _ (λ x now. now) (λ h. h) (λ e. e) (λ lt. lt) name at)
-short_leaves op name reached image now at (Detach location r quiet is) = subst (AtStage op name) (sym is) (stage_global op image _ (was_attached image location) (λ h. h) (λ e. e) (λ lt. lt) name at)
+
+pub job_site_leaves : (op : Op) (name : StageName) (reached : Reach) (image now : Image) → AtStage op name image → JobSiteChange image reached now → AtStage op name now
+job_site_leaves op name reached image now at (BeginJob p r low high target batch may is) = subst (AtStage op name) (sym is) (stage_global op image _ (λ x now. now) (λ h. h) (λ e. e) (λ lt. lt) name at)
+job_site_leaves op name reached image now at (FinishJob r job has at_finish mappings freed is) = subst (AtStage op name) (sym is) (stage_global op image _ (λ x now. now) (λ h. h) (λ e. e) (λ lt. lt) name at)
+job_site_leaves op name reached image now at (Detach location r quiet is) = subst (AtStage op name) (sym is) (stage_global op image _ (was_attached image location) (λ h. h) (λ e. e) (λ lt. lt) name at)
