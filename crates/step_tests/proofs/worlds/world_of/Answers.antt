@@ -1,6 +1,6 @@
 use Rattle.std.proofs.Common.{◌≡◌, ap, sym, ◌∙◌, is_eq}
 use Rattle.std.specs.List.{IsDistinct}
-use Rattle.step_tests.proofs.shapes.world_of.Goals as goal
+use Rattle.step_tests.proofs.worlds.world_of.Goals as goal
 
 pub new-requires-clause-distinct : goal.new-requires-clause-distinct
 unfolding IsDistinct
