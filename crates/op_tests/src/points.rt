@@ -43,17 +43,25 @@ fn put_guids(alloc: Global, world: &mut MemoryWorld) -> Result<(), Fail> {
     put(alloc, world, Cell::Shard(map, here()?))
 }
 
-/// The refusal of a bytes key with as many digits, all `f`.
+/// A bytes key with as many digits, all `f`.
+fn long_key(alloc: Global, digits: u32) -> Result<Vec<u8>, Fail> {
+    let mut text = Vec::new(alloc);
+    text.push(b'0')?;
+    text.push(b'x')?;
+    for _ in 0..digits {
+        text.push(b'f')?;
+    }
+    Ok(text)
+}
+
+/// The refusal of such a key.
 fn of_long_key(
     alloc: Global,
     world: &mut MemoryWorld,
-    digits: usize,
+    digits: u32,
 ) -> Result<Option<Refusal>, Fail> {
-    let mut text = [b'f'; 260];
-    text[0] = b'0';
-    text[1] = b'x';
-    let text = text.get(..digits + 2).ok_or("so many digits")?;
-    of_point(alloc, world, text)
+    let text = long_key(alloc, digits)?;
+    of_point(alloc, world, &text)
 }
 
 #[test]
@@ -102,29 +110,43 @@ fn points_that_are_one(rt: HostRuntime) -> Result<(), Fail> {
     Ok(())
 }
 
-/// The refusal of a guid in `u`; but for the last two digits it is zeros.
-fn of_guid(alloc: Global, world: &mut MemoryWorld, last: [u8; 2]) -> Result<Option<Refusal>, Fail> {
-    of_addpoint(alloc, world, b"u", &guid(last), b"s/a")
+/// The byte at a place in a guid of zeros.
+fn zero_at(index: u32) -> u8 {
+    match index {
+        8 | 13 | 18 | 23 => b'-',
+        _ => b'0',
+    }
 }
 
-fn guid(last: [u8; 2]) -> [u8; 36] {
-    let mut text = [b'0'; 36];
-    text[8] = b'-';
-    text[13] = b'-';
-    text[18] = b'-';
-    text[23] = b'-';
-    text[34] = last[0];
-    text[35] = last[1];
-    text
+/// A guid that is zeros but for its last two digits.
+fn guid(alloc: Global, last: &[u8]) -> Result<Vec<u8>, Fail> {
+    let mut text = Vec::new(alloc);
+    for index in 0..34 {
+        text.push(zero_at(index))?;
+    }
+    for byte in last {
+        text.push(*byte)?;
+    }
+    Ok(text)
+}
+
+fn add_guid(alloc: Global, world: &mut MemoryWorld, last: &[u8]) -> Result<(), Fail> {
+    let text = guid(alloc, last)?;
+    added(alloc, world, b"u", &text)
+}
+
+fn of_guid(alloc: Global, world: &mut MemoryWorld, last: &[u8]) -> Result<Option<Refusal>, Fail> {
+    let text = guid(alloc, last)?;
+    of_addpoint(alloc, world, b"u", &text, b"s/a")
 }
 
 #[test]
 fn guids_that_are_one(rt: HostRuntime) -> Result<(), Fail> {
     let mut world = store(rt.alloc())?;
     put_guids(rt.alloc(), &mut world)?;
-    added(rt.alloc(), &mut world, b"u", &guid([b'a', b'b']))?;
-    assert!(rt; of_guid(rt.alloc(), &mut world, [b'A', b'B'])? == Some(Refusal::Overlap));
-    assert!(rt; of_guid(rt.alloc(), &mut world, [b'a', b'c'])?.is_none());
-    assert!(rt; of_guid(rt.alloc(), &mut world, [b'a', b'g'])? == Some(Refusal::BadKey));
+    add_guid(rt.alloc(), &mut world, b"ab")?;
+    assert!(rt; of_guid(rt.alloc(), &mut world, b"AB")? == Some(Refusal::Overlap));
+    assert!(rt; of_guid(rt.alloc(), &mut world, b"ac")?.is_none());
+    assert!(rt; of_guid(rt.alloc(), &mut world, b"ag")? == Some(Refusal::BadKey));
     Ok(())
 }
