@@ -1,5 +1,6 @@
 pub mod AddAtCommit
 pub mod AloneFails
+pub mod AtCommit
 pub mod Beginnings
 pub mod CalmSteps
 pub mod CoreCourses

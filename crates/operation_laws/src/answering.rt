@@ -34,11 +34,18 @@ ghost use Rattle.operation_laws.specs.Courses.{happened_on};
 ghost use Rattle.operation_laws.specs.Forward.{IsForward};
 ghost use Rattle.operation_laws.specs.LiveNumbers.{AreTheLive};
 ghost use Rattle.operation_laws.specs.Planned.{IsOpFor};
+ghost use Rattle.operation_laws.specs.Opening.{Opens, token_of, ends_with};
 ghost use Rattle.operation_laws.specs.Entries.{EndsNone, IsOneOperation, IsAdding, Names, FollowsAtCommit};
 
 /// What `add` and `addpoint` bring to the commit of their operation, from what the core carries of it: they aren't refused then either, and their plain step is the commit.
 pub fn adding_follows_at_its_commit()
     ensures { (session : ℕ) (l : Live) (image : Image) → Sound image → Stands Needs session l image → IsAdding l.command → (connections : Connections) → FollowsAtCommit session l.command image l.op connections connections }
+{}
+
+/// So each command that is one operation, where its token opens the mappings that are replaced, and the operation is of no job: both are said of the command and its operation alone.
+pub fn operation_follows_at_its_commit()
+    ensures { (session : ℕ) (l : Live) (image : Image) → Sound image → Stands Needs session l image → IsOneOperation l.command → Opens (token_of l.command) l.op → (connections : Connections) →
+        FollowsAtCommit session l.command image l.op connections (ends_with (with_connections (meaning image) connections) l.command) }
 {}
 
 /// What a command of one operation reaches is what its operation reaches, whatever its number.
