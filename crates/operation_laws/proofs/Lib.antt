@@ -7,6 +7,7 @@ pub mod CoreCourses
 pub mod Done
 pub mod Entries
 pub mod Exchanges
+pub mod FaultedOffline
 pub mod FirstImage
 pub mod Full
 pub mod Left
