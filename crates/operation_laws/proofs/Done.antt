@@ -86,7 +86,7 @@ leaves_resting e r is left = record { no_operation = refl; answered = λ a given
 -- ---- what a call leaves of the states
 
 -- from a stage up to the commit: what they stood for, or the exchange
-stands_either : (image : Image) → Sound image → (op : Op) (name : StageName) → IsForward name → AtStage op name image → (result : Result Stage StepFault) (hs : List Happening) → Advances op name (IsOk result) (FailsByMemory result) image hs
+pub stands_either : (image : Image) → Sound image → (op : Op) (name : StageName) → IsForward name → AtStage op name image → (result : Result Stage StepFault) (hs : List Happening) → Advances op name (IsOk result) (FailsByMemory result) image hs
     → (meaning (after_all image hs) ≡ meaning image) ⊎ (after_all image hs ≡ committed_image image op)
 stands_either image sound op Logged f at result hs advances = inl (step_leaves image sound op Logged tt at result hs advances)
 stands_either image sound op SourceDone f at result hs advances = inl (step_leaves image sound op SourceDone tt at result hs advances)

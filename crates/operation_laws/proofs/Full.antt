@@ -1,5 +1,5 @@
 -- A command of one operation is answered `full`: no operation number is left.
-use Rattle.std.proofs.Common.{◌≡◌, inr, ℕ, ◌+◌, ◌^◌, true, false, refl, sym, ap, ◌∙◌, subst, Some, None, Option, [], ◌∷◌, length}
+use Rattle.std.proofs.Common.{◌≡◌, inr, ℕ, ◌+◌, ◌^◌, false, refl, sym, ap, ◌∙◌, subst, Some, None, Option, [], ◌∷◌, length}
 use Rattle.std.specs.Prelude.{IsTrue}
 use Rattle.cell_world.specs.Images.{Image}
 use Rattle.cell_world.specs.Plain.{PlainState, Connections, with_connections}

@@ -1,5 +1,6 @@
 pub mod AddAtCommit
 pub mod AloneFails
+pub mod AtCommit
 pub mod Beginnings
 pub mod CalmCourses
 pub mod CalmSteps
@@ -7,6 +8,7 @@ pub mod CoreCourses
 pub mod Done
 pub mod Entries
 pub mod Exchanges
+pub mod FaultedOffline
 pub mod FirstImage
 pub mod Full
 pub mod Left

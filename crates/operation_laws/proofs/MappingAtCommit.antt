@@ -1,5 +1,5 @@
 -- What commands on a mapping bring to their commit: they aren't refused then either, where the token opens the mappings, and their plain step is the commit.
-use Rattle.std.proofs.Common.{◌≡◌, ◌⊎◌, inl, inr, ℕ, Bool, true, false, ◌||◌, not, cond, refl, sym, ap, ◌∙◌, subst, Some, None, Option, is_some, List, [], ◌∷◌, ◌++◌, eqb, eq-eqb, true≢false}
+use Rattle.std.proofs.Common.{◌≡◌, ◌⊎◌, inl, inr, ℕ, Bool, true, false, ◌||◌, not, cond, refl, sym, ap, ◌∙◌, subst, Some, None, Option, is_some, List, [], ◌∷◌, ◌++◌, eq-eqb, true≢false}
 use Rattle.std.specs.Prelude.{IsTrue, option_and_then, option_map, ◌&&◌}
 use Rattle.std.specs.Option.{is_none}
 use Rattle.std.specs.FinMap as map
@@ -15,13 +15,12 @@ use Rattle.cell_world.specs.Jobs.{part_of}
 use Rattle.cell_world.specs.Spelled.{listed}
 use Rattle.cell_world.specs.Stores.{Rows, exchanged}
 use Rattle.cell_world.specs.Images.{Image, global}
-use Rattle.cell_world.specs.Plain.{PlainState, Connections, with_connections, owner, is_attached, holds_nothing}
+use Rattle.cell_world.specs.Plain.{PlainState, Connections, with_connections, owner, holds_nothing}
 use Rattle.cell_world.specs.Marked.{committed_image, jobs_after}
 use Rattle.cell_world.specs.Meaning.{meaning, next_job, owner_of, is_attached_at}
 use Rattle.cell_world.specs.Operations.{hull_of}
 use Rattle.cell_world.specs.Sound.{Sound, HasLog, HasPiece, HasJob, IsAttachedIn, IsSpanOf}
 use Rattle.cell_world.specs.Lawful.{Lawful, HasShape, Moves, IsOfJob, IsStepOf, read_tables, rows_at, rows_under, job_of_pieces}
-use Rattle.cell_world.specs.KeyForms.{is_span_of}
 use Rattle.cell_world.specs.declared.operations.Extra.TheVariants as extra
 use Rattle.cell_world.specs.declared.operations.JobRow.{JobRow}
 use Rattle.cell_world.specs.declared.operations.Op.{Op}
@@ -34,7 +33,6 @@ use Rattle.cell_world.specs.declared.cells.Status.TheVariants.{Online, Offline}
 use Rattle.cell_world.specs.declared.cells.Token.{Token}
 use Rattle.cell_world.specs.declared.spans.High.{High}
 use Rattle.cell_world.specs.declared.spans.High.TheVariants.{At}
-use Rattle.cell_world.specs.declared.spans.Span.{Span}
 use Rattle.cell_world.specs.declared.spans.Span.TheVariants.{Range}
 use Rattle.cell_world.proofs.ListLaws.{all_at}
 use Rattle.cell_world.proofs.MappingLaws.{sound_mappings}
@@ -59,7 +57,7 @@ use Rattle.plain_model.specs.Steps.{Exchange, exchange_of, exchange_by, exchangi
 use Rattle.plain_model.specs.Legal.{IsOwnOf}
 use Rattle.operation_laws.specs.Entries.{FollowsAtCommit}
 use Rattle.operation_laws.specs.Opening.{Opens}
-use Rattle.operation_laws.proofs.AddAtCommit.{AllPass, all_pass, not_away, range_of_kind}
+use Rattle.operation_laws.proofs.AddAtCommit.{all_pass, not_away, range_of_kind}
 
 -- a token that is none or the given one is open
 open_token : (given t : Option Token) → (t ≡ None) ⊎ (t ≡ given) → (is_some t && not (same_token given t)) ≡ false
@@ -448,11 +446,43 @@ module _ (image : Image) (sound : Sound image) (op : Op) (logged : HasLog (globa
       let among = moved_old location t.piece t.is t.own.0 t.own.1 opens.no_job in
       let here = target location t.piece t.is t.own.0 t.own.1 opens.no_job in
       let away = not_away (map.get (global image).away location) here.attached in
-      all_pass (checks A session (command.Move name key location token))
-      (stands t.piece t.is, (has_key t.piece t.is, (has_mapping t.piece t.is, (not_detached t.piece t.is among, (not_suspect t.piece t.is among, (unlocked t.piece t.is among token opens,
-      (ap not here.known, (shard_there location t.piece t.is t.own.0 t.own.1 opens.no_job, (away.0, (away.1, (other_site location t.piece t.is t.own.0 t.own.1 opens.no_job,
-      (is_offline t.piece t.is (moves location t.piece t.is t.own.0 t.own.1 opens.no_job).offline,
-      (none_present t.piece (fit.stand t.piece among) (never_there location t.piece t.is t.own.0 t.own.1 opens.no_job) t.is, tt)))))))))))))
+      all_pass (checks A session (command.Move name key location token)) (
+        stands t.piece t.is,
+        (
+          has_key t.piece t.is,
+          (
+            has_mapping t.piece t.is,
+            (
+              not_detached t.piece t.is among,
+              (
+                not_suspect t.piece t.is among,
+                (
+                  unlocked t.piece t.is among token opens,
+                  (
+                    ap not here.known,
+                    (
+                      shard_there location t.piece t.is t.own.0 t.own.1 opens.no_job,
+                      (
+                        away.0,
+                        (
+                          away.1,
+                          (
+                            other_site location t.piece t.is t.own.0 t.own.1 opens.no_job,
+                            (
+                              is_offline t.piece t.is (moves location t.piece t.is t.own.0 t.own.1 opens.no_job).offline,
+                              (none_present t.piece (fit.stand t.piece among) (never_there location t.piece t.is t.own.0 t.own.1 opens.no_job) t.is, tt),
+                            ),
+                          ),
+                        ),
+                      ),
+                    ),
+                  ),
+                ),
+              ),
+            ),
+          ),
+        ),
+      )
 
   pub move_at_commit : (session : ℕ) (location : Text) (token : Option Token) → IsOwnOf A (command.Move name key location token) None image op → Opens token op → FollowsAtCommit session (command.Move name key location token) image op connections connections
   move_at_commit session location token own opens = record {

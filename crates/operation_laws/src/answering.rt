@@ -1,22 +1,26 @@
 //! A command that is one operation is answered. Each law gives the core after the entry, with what the entry says of the states and of the trail.
 ghost use Rattle.std.specs.Prelude.{◌≡◌, ◌+◌, ◌<◌, ◌^◌, ℕ, List, [], ◌∷◌, length, Option, Some, None, Result, IsOk, Ok, Err};
+ghost use Rattle.cell_world.specs.Texts.{Text};
 ghost use Rattle.cell_world.specs.Images.{Image, Happening, after_all, global};
 ghost use Rattle.cell_world.specs.Lawful.{Lawful};
 ghost use Rattle.cell_world.specs.Plain.{Connections, with_connections};
 ghost use Rattle.cell_world.specs.Meaning.{meaning, next_operation};
 ghost use Rattle.cell_world.specs.Operations.{reach_of};
 ghost use Rattle.cell_world.specs.Sound.{Sound};
+ghost use Rattle.cell_world.specs.declared.cells.Token.{Token};
 ghost use Rattle.cell_world.specs.declared.operations.Op.{Op};
 ghost use Rattle.cell_world.specs.declared.operations.Reach.{Reach};
 ghost use Rattle.cell_world.specs.declared.operations.StageName.TheVariants.{TargetDone};
 ghost use Rattle.global_tables.specs.declared.faults.StepFault.{StepFault};
 ghost use Rattle.plain_model.specs.declared.commands.Command.{Command};
+ghost use Rattle.plain_model.specs.declared.commands.Command.TheVariants as command;
 ghost use Rattle.plain_model.specs.declared.replies.Reply.TheVariants as reply;
 ghost use Rattle.plain_model.specs.declared.replies.Refusal.TheVariants as refused;
 ghost use Rattle.plain_model.specs.declared.history.Entry.{Entry};
 ghost use Rattle.plain_model.specs.JobSteps.{asked_number};
 ghost use Rattle.plain_model.specs.OnTrail.{reach_of_command};
-ghost use Rattle.plain_model.specs.Refusing.{refusal};
+ghost use Rattle.plain_model.specs.Refusing.{refusal, mapping_of};
+ghost use Rattle.plain_model.specs.Steps.{ended_under};
 ghost use Rattle.plain_model.specs.Timelines.{Timeline, Past, Entered, image_of, happened_of};
 ghost use Rattle.plain_model.specs.Written.{Mode};
 ghost use Rattle.plain_model.specs.Running.{text_of};
@@ -34,11 +38,18 @@ ghost use Rattle.operation_laws.specs.Courses.{happened_on};
 ghost use Rattle.operation_laws.specs.Forward.{IsForward};
 ghost use Rattle.operation_laws.specs.LiveNumbers.{AreTheLive};
 ghost use Rattle.operation_laws.specs.Planned.{IsOpFor};
+ghost use Rattle.operation_laws.specs.Opening.{Opens, token_of, ends_with};
 ghost use Rattle.operation_laws.specs.Entries.{EndsNone, IsOneOperation, IsAdding, Names, FollowsAtCommit};
 
 /// What `add` and `addpoint` bring to the commit of their operation, from what the core carries of it: they aren't refused then either, and their plain step is the commit.
 pub fn adding_follows_at_its_commit()
     ensures { (session : ℕ) (l : Live) (image : Image) → Sound image → Stands Needs session l image → IsAdding l.command → (connections : Connections) → FollowsAtCommit session l.command image l.op connections connections }
+{}
+
+/// So each command that is one operation, where its token opens the mappings that are replaced, and the operation is of no job: both are said of the command and its operation alone.
+pub fn operation_follows_at_its_commit()
+    ensures { (session : ℕ) (l : Live) (image : Image) → Sound image → Stands Needs session l image → IsOneOperation l.command → Opens (token_of l.command) l.op → (connections : Connections) →
+        FollowsAtCommit session l.command image l.op connections (ends_with (with_connections (meaning image) connections) l.command) }
 {}
 
 /// What a command of one operation reaches is what its operation reaches, whatever its number.
@@ -142,4 +153,32 @@ pub fn full_answers()
         (e : Entry) (left : Option Op) → doing e.session ≡ Working e.command left → e.operation ≡ 0 → e.reply ≡ Some (reply.Refused refused.Full) →
         IsOneOperation e.command → refusal (with_connections (meaning image) connections) e.session e.command ≡ None →
         (next : AllDoing) → IsThen doing e.session (Resting left) next → CoreAlone Needs first (record { entry = e; before = meaning image } ∷ past) connections image next }
+{}
+
+/// The fault of an `offline`, at whatever stage: the entry names its operation, and the connections to its mapping have ended, whether it is committed or not.
+pub fn offline_fault_names_it()
+    ensures on_trail { (since : ℕ) (start : Image) (mode : Mode) (past : Timeline) (connections : Connections) (doing : AllDoing) → Core Needs since start mode past connections [] doing → (e : Entry) (name key : Text) (token : Option Token) →
+        (l : Live) → live_of (doing e.session) ≡ Some l → l.command ≡ command.Offline name key token → IsForward l.stage → (result : Result Stage StepFault) (hs : List Happening) → Advances l.op l.stage (IsOk result) (FailsByMemory result) (image_of start past) hs →
+        Names e (command.Offline name key token) l.op.number reply.Fault → e.moment ≡ since + length (happened_of (happened_on past hs)) →
+        FollowsAtCommit e.session (command.Offline name key token) (image_of start past) l.op connections (ended_under (mapping_of (with_connections (meaning (image_of start past)) connections) name key) connections) →
+        (left : Option Op) (next : AllDoing) → IsThen doing e.session (Resting left) next →
+        Core Needs since start mode (Entered e ∷ happened_on past hs) (ended_under (mapping_of (with_connections (meaning (image_of start past)) connections) name key) connections) (text_of mode e) next }
+    ensures alone { (first : Image) (past : Past) (connections : Connections) (image : Image) (doing : AllDoing) → CoreAlone Needs first past connections image doing → (e : Entry) (name key : Text) (token : Option Token) →
+        (l : Live) → live_of (doing e.session) ≡ Some l → l.command ≡ command.Offline name key token → IsForward l.stage → (result : Result Stage StepFault) (hs : List Happening) → Advances l.op l.stage (IsOk result) (FailsByMemory result) image hs →
+        Names e (command.Offline name key token) l.op.number reply.Fault →
+        FollowsAtCommit e.session (command.Offline name key token) image l.op connections (ended_under (mapping_of (with_connections (meaning image) connections) name key) connections) →
+        (left : Option Op) (next : AllDoing) → IsThen doing e.session (Resting left) next →
+        CoreAlone Needs first (record { entry = e; before = meaning image } ∷ past) (ended_under (mapping_of (with_connections (meaning image) connections) name key) connections) (after_all image hs) next }
+{}
+
+/// So where its log row was tried and refused.
+pub fn offline_fault_names_its_log_row()
+    ensures on_trail { (since : ℕ) (start : Image) (mode : Mode) (past : Timeline) (connections : Connections) (doing : AllDoing) → Core Needs since start mode past connections [] doing → (e : Entry) (name key : Text) (token : Option Token) →
+        (left : Option Op) → doing e.session ≡ Working e.command left → e.command ≡ command.Offline name key token → (live : List ℕ) → AreTheLive live doing → (op : Op) → IsOpFor e.command (image_of start past) op → next_operation (image_of start past) < 2 ^ 63 →
+        (hs : List Happening) → Begins live op (Err (begin.Tried e.operation)) (image_of start past) hs → e.reply ≡ Some reply.Fault → e.moment ≡ since + length (happened_of (happened_on past hs)) → (next : AllDoing) → IsThen doing e.session (Resting left) next →
+        Core Needs since start mode (Entered e ∷ happened_on past hs) (ended_under (mapping_of (with_connections (meaning (image_of start past)) connections) name key) connections) (text_of mode e) next }
+    ensures alone { (first : Image) (past : Past) (connections : Connections) (image : Image) (doing : AllDoing) → CoreAlone Needs first past connections image doing → (e : Entry) (name key : Text) (token : Option Token) →
+        (left : Option Op) → doing e.session ≡ Working e.command left → e.command ≡ command.Offline name key token → (live : List ℕ) → AreTheLive live doing → (op : Op) → IsOpFor e.command image op → next_operation image < 2 ^ 63 →
+        (hs : List Happening) → Begins live op (Err (begin.Tried e.operation)) image hs → e.reply ≡ Some reply.Fault → (next : AllDoing) → IsThen doing e.session (Resting left) next →
+        CoreAlone Needs first (record { entry = e; before = meaning image } ∷ past) (ended_under (mapping_of (with_connections (meaning image) connections) name key) connections) (after_all image hs) next }
 {}
