@@ -10,6 +10,7 @@ pub mod Exchanges
 pub mod FaultedOffline
 pub mod FirstImage
 pub mod Full
+pub mod GivenNumbers
 pub mod Left
 pub mod MappingAtCommit
 pub mod OwnSteps
