@@ -46,7 +46,7 @@ fn core_of(alloc: Global, sessions: u32) -> Result<Core<MemoryWorld>, Fail>
 }
 
 /// A session asks a command.
-fn ask(
+pub(crate) fn ask(
     alloc: Global,
     core: &mut Core<MemoryWorld>,
     session: u32,

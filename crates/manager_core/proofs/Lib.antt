@@ -1,4 +1,5 @@
 pub mod Copies
 pub mod Counting
 pub mod EventLaws
+pub mod OpeningLaws
 pub mod ShortAnswers

@@ -1,13 +1,10 @@
 //! How a core begins, what it tells of itself, and how it ends.
-ghost use Rattle.std.specs.Prelude.{◌≡◌, ◌&&◌, ◌==◌, [], None, length, filter, is_some, false, IfOk, IfErr};
-ghost use Rattle.cell_world.specs.Counts.{Rose};
-ghost use Rattle.cell_world.specs.Images.{global};
-ghost use Rattle.cell_world.specs.Outside.{IfContents, IsLater};
+ghost use Rattle.std.specs.Prelude.{◌≡◌, ◌⊎◌, ◌&&◌, ◌==◌, [], None, length, filter, is_some, false, IfOk, IfErr, IsErrOf, IsOk};
+ghost use Rattle.cell_world.specs.Outside.{IsLater, StoreRoseBy};
 ghost use Rattle.plain_model.specs.Headline.{answered_by};
 ghost use Rattle.plain_model.specs.declared.history.Entry.{Entry};
-ghost use Rattle.site_names.specs.Named.{TellsFirst};
 ghost use Rattle.manager_core.specs.Answering.{IsCopy};
-ghost use Rattle.manager_core.specs.Cores.{HasRoom, FaultHasCause};
+ghost use Rattle.manager_core.specs.Cores.{HasRoom, FaultHasCause, KnowsAll, Opens, AreRecovered};
 
 use crate::manager::Core;
 use cell_world::locations::Location;
@@ -15,14 +12,15 @@ use cell_world::memory::Memory;
 use cell_world::outside::World;
 use global_tables::faults::StepFault;
 use global_tables::known::KnownTables;
+use op_steps::undoing::recover;
 use plain_model::history::{Entry, History, Journal};
 use site_names::unknown::first_unknown;
 use std::alloc::Global;
 
-/// Why a core can't begin. The stores are as they were.
+/// Why a core can't begin.
 #[derive(Clone, Copy, PartialEq, Eq)]
 pub enum StartFault {
-    /// The global store couldn't be read.
+    /// A store refused.
     Store,
     /// Want of memory.
     Memory,
@@ -60,25 +58,47 @@ impl From<StepFault> for StartFault {
     }
 }
 
-/// Looks whether the world knows all locations that the global store names, and copies its tables.
-fn open_tables<W: World>(alloc: Global, world: &mut W) -> Result<KnownTables, StartFault>
-    ensures copy { IfOk result (λ known. IsCopy known (W.outside world.old).told) }
-    ensures all_known { IfOk result (λ known. IfContents (W.outside world.old).told (λ image. TellsFirst (global image) (W.outside world.old).locations None)) }
-    ensures fault { IfErr result (FaultHasCause (W.outside world.old) (W.outside world.new)) }
-    ensures told { (W.outside world.new).told ≡ (W.outside world.old).told }
+/// Undoes each operation that is logged, and copies the tables.
+fn open_tables<W: World>(alloc: Global, world: &mut W) -> Result<KnownTables, StepFault>
+    ensures opens { Opens (W.outside world.old).told (W.outside world.new).told }
+    ensures recovers { IsOk result → AreRecovered (W.outside world.old).told (W.outside world.new).told }
+    ensures copy { IfOk result (λ known. IsCopy known (W.outside world.new).told) }
+    ensures cause { IsErrOf result StepFault.Store → StoreRoseBy 1 (W.outside world.old) (W.outside world.new) }
     ensures later { IsLater (W.outside world.old) (W.outside world.new) }
 {
-    match first_unknown(alloc, world)? {
-        Some(location) => Err(StartFault::UnknownLocation(location)),
-        None => Ok(KnownTables::read(alloc, world)?),
+    match recover(alloc, world) {
+        Ok(()) => KnownTables::read(alloc, world),
+        Err(fault) => Err(fault),
+    }
+}
+
+/// Looks whether the world knows all locations that the global store names, and then opens the stores.
+fn open_stores<W: World>(alloc: Global, world: &mut W) -> Result<KnownTables, StartFault>
+    ensures opens { Opens (W.outside world.old).told (W.outside world.new).told }
+    ensures recovers { IsOk result → AreRecovered (W.outside world.old).told (W.outside world.new).told }
+    ensures copy { IfOk result (λ known. IsCopy known (W.outside world.new).told) }
+    ensures all_known { IsOk result → KnowsAll (W.outside world.old) }
+    ensures untouched { ((W.outside world.new).told ≡ (W.outside world.old).told) ⊎ KnowsAll (W.outside world.old) }
+    ensures fault { IfErr result (FaultHasCause (W.outside world.old) (W.outside world.new)) }
+    ensures later { IsLater (W.outside world.old) (W.outside world.new) }
+{
+    match first_unknown(alloc, world) {
+        Ok(None) => match open_tables(alloc, world) {
+            Ok(known) => Ok(known),
+            Err(fault) => Err(StartFault::from(fault)),
+        },
+        Ok(Some(location)) => Err(StartFault::UnknownLocation(location)),
+        Err(fault) => Err(StartFault::from(fault)),
     }
 }
 
 impl<W: World> Core<W> {
-    /// A core over a world, for sessions with the numbers from 1 to this one, at most 16. Nothing is changed.
+    /// A core over a world, for sessions with the numbers from 1 to this one, at most 16. Each operation that was logged is
+    /// undone: what the stores stand for stays.
     ///
-    /// The fault hands the world back: `Store`, the global store couldn't be read; `UnknownLocation`, it names a location
-    /// that the world doesn't know; `Memory`, want of memory.
+    /// The fault hands the world back: `UnknownLocation`, the global store names a location that the world doesn't know, and
+    /// nothing was changed; `Store`, a store refused; `Memory`, want of memory. After these two some logged operations may
+    /// be undone.
     pub fn start(alloc: Global, world: W, sessions: u32) -> Result<Core<W>, (StartFault, W)>
         ensures history { IfOk result (λ core. core.journal.entries ≡ []) }
         ensures goes { IfOk result (λ core. core.stop ≡ None) }
@@ -86,15 +106,19 @@ impl<W: World> Core<W> {
         ensures room { IfOk result (λ core. HasRoom core.journal core.stop) }
         // the copy of the tables is what the global cells say, and all locations that they name are known
         ensures copy { IfOk result (λ core. IsCopy core.known (W.outside core.world).told) }
-        ensures all_known { IfOk result (λ core. IfContents (W.outside world).told (λ image. TellsFirst (global image) (W.outside world).locations None)) }
-        ensures told { IfOk result (λ core. (W.outside core.world).told ≡ (W.outside world).told) }
+        ensures all_known { IfOk result (λ core. KnowsAll (W.outside world)) }
+        // it rests, the stores stand for the same as before, and no operation is logged
+        ensures opens { IfOk result (λ core. Opens (W.outside world).told (W.outside core.world).told) }
+        ensures recovers { IfOk result (λ core. AreRecovered (W.outside world).told (W.outside core.world).told) }
         ensures later { IfOk result (λ core. IsLater (W.outside world) (W.outside core.world)) }
+        // else what was done is sound at each moment, and nothing was where a location is unknown
         ensures fault { IfErr result (λ stop. FaultHasCause (W.outside world) (W.outside stop.1) stop.0) }
-        ensures handed_back { IfErr result (λ stop. (W.outside stop.1).told ≡ (W.outside world).told) }
+        ensures fault_opens { IfErr result (λ stop. Opens (W.outside world).told (W.outside stop.1).told) }
+        ensures untouched { IfErr result (λ stop. ((W.outside stop.1).told ≡ (W.outside world).told) ⊎ KnowsAll (W.outside world)) }
         ensures fault_later { IfErr result (λ stop. IsLater (W.outside world) (W.outside stop.1)) }
     {
         let mut world = world;
-        let known = match open_tables(alloc, &mut world) {
+        let known = match open_stores(alloc, &mut world) {
             Ok(known) => known,
             Err(fault) => return Err((fault, world)),
         };

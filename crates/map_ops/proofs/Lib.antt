@@ -1,7 +1,11 @@
+pub mod AddPlans
 pub mod AskingLaws
+pub mod Checks
 pub mod KnownLocations
+pub mod OverlapLaws
 pub mod PlanLaws
 pub mod PlannedLaws
 pub mod RefusalLaws
 pub mod ShortChanges
+pub mod SpanReadings
 pub mod UnmapLaws

@@ -1,5 +1,5 @@
 -- Refusals for which more is asked than the copy of the tables.
-use Rattle.std.proofs.Common.{◌≡◌, Bool, true, false, cond, not, ◌&&◌, ◌||◌, List, [], ◌∷◌, ◌++◌, filter, Option, Some, is_some, refl, sym, ap, ◌∙◌}
+use Rattle.std.proofs.Common.{◌≡◌, Bool, true, false, cond, not, ◌&&◌, ◌||◌, List, [], ◌∷◌, filter, Option, Some, is_some, refl, sym, ap, ◌∙◌}
 use Rattle.std.specs.List.{list_any}
 use Rattle.std.specs.FinMap as map
 use Rattle.std.specs.FinSet as set
@@ -9,7 +9,9 @@ use Rattle.cell_world.specs.Meaning.{meaning}
 use Rattle.cell_world.specs.Outside.{Told, IfContents}
 use Rattle.cell_world.specs.Keys.{same}
 use Rattle.cell_world.specs.Plain.{Connections, is_location_of}
+use Rattle.cell_world.specs.Sound.{Sound}
 use Rattle.cell_world.specs.declared.operations.Piece.{Piece}
+use Rattle.cell_world.specs.declared.spans.Span.{Span}
 use Rattle.cell_world.specs.Stores.{Store}
 use Rattle.cell_world.proofs.ContentsLaws.{contents_weaker, contents_both}
 use Rattle.global_tables.specs.Groups.{pieces_in}
@@ -17,10 +19,13 @@ use Rattle.global_tables.specs.Known.{Known, known_of}
 use Rattle.plain_model.specs.declared.commands.Command.TheVariants as command
 use Rattle.plain_model.specs.declared.replies.Refusal.{Refusal}
 use Rattle.plain_model.specs.declared.replies.Refusal.TheVariants as refused
-use Rattle.plain_model.specs.Refusing.{Check, first_refusal, refusal, is_detached, is_suspect, shard_in_use}
+use Rattle.plain_model.specs.Refusing.{first_refusal, refusal, is_detached, is_suspect, shard_in_use, overlap}
 use Rattle.plain_model.specs.ShortCommands.{standing_with}
+use Rattle.map_ops.specs.Adding.{site_checks, RefusesNew}
 use Rattle.map_ops.specs.Changes.{has_mapping_at, is_in_use, unshard_checks}
+use Rattle.map_ops.specs.Overlapping.{has_overlap}
 use Rattle.map_ops.specs.Planning.{RefusesWith}
+use Rattle.map_ops.proofs.Checks.{first_then, first_else}
 
 -- a test that the copy of the tables decides
 abbrev Known_by : Known → Bool → (Store → Bool) → Type 0
@@ -56,6 +61,42 @@ module _ (told : Told) (known : Known) (name location : Text) (stands here shard
       ∷ (not (s (global image) copy i), refused.NotAShard) ∷ (d (global image) copy i, refused.Detached) ∷ (u (global image) copy i, refused.Unresolved) ∷ [])))
       l
 
+-- ---- the site of a new mapping
+
+module _ (told : Told) (known : Known) (name location : Text) (here shard gone unsure : Bool) (found : Option Refusal) where
+  pub site_first : found ≡ first_refusal ((not here, refused.NoLocation) ∷ (not shard, refused.NotAShard) ∷ (gone, refused.Detached) ∷ (unsure, refused.Unresolved) ∷ [])
+      → IfContents told (λ image. here ≡ is_location_of (meaning image) location)
+      → Known_by known shard (λ s. set.contains s.shards (name, location))
+      → Known_by known gone (λ s. is_detached (map.get s.away location))
+      → Known_by known unsure (λ s. is_suspect (map.get s.away location))
+      → IfContents told (λ image. known ≡ known_of (global image) → (connections : Connections) → found ≡ first_refusal (site_checks (standing_with image connections) name location))
+  site_first first l s d u = contents_weaker told (λ image. here ≡ is_location_of (meaning image) location)
+      (λ image. known ≡ known_of (global image) → (connections : Connections) → found ≡ first_refusal (site_checks (standing_with image connections) name location))
+      (λ image is copy connections. first ∙ (λ i. first_refusal ((not (is i), refused.NoLocation)
+      ∷ (not (s (global image) copy i), refused.NotAShard) ∷ (d (global image) copy i, refused.Detached) ∷ (u (global image) copy i, refused.Unresolved) ∷ [])))
+      l
+
+module _ (told : Told) (known : Known) (name : Text) (span : Span) (location : Text) (early : Option Refusal)
+    (first : IfContents told (λ image. known ≡ known_of (global image) → (connections : Connections) → early ≡ first_refusal (site_checks (standing_with image connections) name location))) where
+  abbrev OfSite : Image → Type 0
+  OfSite image = known ≡ known_of (global image) → (connections : Connections) → early ≡ first_refusal (site_checks (standing_with image connections) name location)
+
+  -- where a check of the site holds it is the refusal
+  pub new_early : is_some early ≡ true → IfContents told (RefusesNew known name span location early)
+  new_early some = contents_weaker told OfSite (RefusesNew known name span location early)
+      (λ image is sound copy connections. is copy connections
+      ∙ sym (first_then (site_checks (standing_with image connections) name location) (overlap (standing_with image connections) name (Some span) ∷ []) (sym (ap is_some (is copy connections)) ∙ some))) first
+
+  -- and else the overlap decides
+  pub new_late : is_some early ≡ false → (over : Bool) → IfContents told (λ image. Sound image → over ≡ has_overlap (global image).mappings name span)
+      → (found : Option Refusal) → found ≡ first_refusal ((over, refused.Overlap) ∷ []) → IfContents told (RefusesNew known name span location found)
+  new_late none over by_world found is = contents_weaker told (λ image. OfSite image × (Sound image → over ≡ has_overlap (global image).mappings name span)) (RefusesNew known name span location found)
+      (λ image both sound copy connections. is ∙ (λ i. first_refusal ((both.1 sound i, refused.Overlap) ∷ []))
+      ∙ sym (first_else (site_checks (standing_with image connections) name location) (overlap (standing_with image connections) name (Some span) ∷ []) (sym (ap is_some (both.0 copy connections)) ∙ none)))
+      (contents_both told OfSite (λ image. Sound image → over ≡ has_overlap (global image).mappings name span) first by_world)
+
+-- ---- `unshard`
+
 -- a test on those that pass another one is both tests
 any_both : {A : Type 0} (f g : A → Bool) (xs : List A) → list_any g (filter f xs) ≡ list_any (λ x. f x && g x) xs
 any_both f g [] = refl
@@ -71,25 +112,6 @@ module _ (told : Told) (name location : Text) (pieces : List Piece) (found : Boo
       → IfContents told (λ image. found ≡ has_mapping_at (global image).mappings name location)
   mapping_found is = contents_weaker told (λ image. pieces ≡ pieces_in (global image).mappings name) (λ image. found ≡ has_mapping_at (global image).mappings name location)
       (λ image those. is ∙ ap (list_any (λ (p : Piece). same p.location location)) those ∙ any_both (λ (p : Piece). same name p.map) (λ (p : Piece). same p.location location) (map.values (global image).mappings))
-
--- Of two lists of checks the first one decides where some check of it holds, and else the second.
-first_then : (checks more : List Check) → is_some (first_refusal checks) ≡ true → first_refusal (checks ++ more) ≡ first_refusal checks
-first_then [] more e = let wrong : false ≡ true = e in cc
-first_then (check ∷ checks) more e = by check.0 e (first_then checks more)
-  where
-    by : (b : Bool) → is_some (cond b (Some check.1) (first_refusal checks)) ≡ true → (is_some (first_refusal checks) ≡ true → first_refusal (checks ++ more) ≡ first_refusal checks)
-        → cond b (Some check.1) (first_refusal (checks ++ more)) ≡ cond b (Some check.1) (first_refusal checks)
-    by true e later = refl
-    by false e later = later e
-
-first_else : (checks more : List Check) → is_some (first_refusal checks) ≡ false → first_refusal (checks ++ more) ≡ first_refusal more
-first_else [] more e = refl
-first_else (check ∷ checks) more e = by check.0 e (first_else checks more)
-  where
-    by : (b : Bool) → is_some (cond b (Some check.1) (first_refusal checks)) ≡ false → (is_some (first_refusal checks) ≡ false → first_refusal (checks ++ more) ≡ first_refusal more)
-        → cond b (Some check.1) (first_refusal (checks ++ more)) ≡ first_refusal more
-    by true e later = let wrong : true ≡ false = e in cc
-    by false e later = later e
 
 module _ (told : Told) (known : Known) (name location : Text) (early : Option Refusal)
     (first : IfContents told (λ image. known ≡ known_of (global image) → (connections : Connections) → early ≡ first_refusal (unshard_checks (standing_with image connections) name location))) where

@@ -1,5 +1,5 @@
 -- What each short change makes of a sound image, where the command table accepts its command.
-use Rattle.std.proofs.Common.{◌≡◌, Bool, true, false, not, ◌&&◌, ◌||◌, cond, List, [], ◌∷◌, Option, Some, None, is_some, refl, sym, ap, ◌∙◌, subst}
+use Rattle.std.proofs.Common.{◌≡◌, Bool, true, false, ◌&&◌, List, [], ◌∷◌, Option, None, is_some, refl, sym, ap, ◌∙◌, subst}
 use Rattle.std.specs.Prelude.{IsSome}
 use Rattle.std.specs.FinMap as map
 use Rattle.std.specs.List.{list_any}
@@ -13,10 +13,8 @@ use Rattle.cell_world.specs.Orders.{pair_cmp}
 use Rattle.cell_world.specs.Stores.{changed, piece_key}
 use Rattle.cell_world.specs.Images.{Image, Global, global, with_store}
 use Rattle.cell_world.specs.Meaning.{meaning, next_operation}
-use Rattle.cell_world.specs.Plain.{PlainState, nobody, with_connections, is_attached}
+use Rattle.cell_world.specs.Plain.{PlainState, nobody, with_connections}
 use Rattle.cell_world.specs.Sound.{Sound, HasShard, HasTable, HasPiece, HasJob, IsAttachedIn}
-use Rattle.cell_world.specs.declared.cells.Away.{Away}
-use Rattle.cell_world.specs.declared.cells.Away.TheVariants as away
 use Rattle.cell_world.specs.declared.cells.Cell.TheVariants as cell
 use Rattle.cell_world.specs.declared.cells.CellKey.TheVariants as at
 use Rattle.cell_world.specs.declared.cells.MapKind.{MapKind}
@@ -37,43 +35,12 @@ use Rattle.plain_model.specs.declared.commands.Command.{Command}
 use Rattle.plain_model.specs.declared.commands.Command.TheVariants as command
 use Rattle.plain_model.specs.declared.replies.Reply.TheVariants as reply
 use Rattle.plain_model.specs.declared.replies.Refusal.{Refusal}
-use Rattle.plain_model.specs.Refusing.{Check, checks, first_refusal, refusal, is_detached, is_suspect}
+use Rattle.plain_model.specs.Refusing.{checks, refusal}
 use Rattle.plain_model.specs.ShortCommands.{standing_with}
 use Rattle.map_ops.specs.Planning.{Refuses, PlansChange}
+use Rattle.map_ops.proofs.Checks.{NoneHolds, none_holds, of_not, none_of, never, neither, attached}
 
 -- ---- none of a command's refusals holds
-
-abbrev NoneHolds : List Check → Type 0
-NoneHolds [] = Unit {0}
-NoneHolds (check ∷ more) = (check.0 ≡ false) × NoneHolds more
-
-none_holds : (tests : List Check) → first_refusal tests ≡ None → NoneHolds tests
-none_holds [] h = tt
-none_holds (check ∷ more) h = by check.0 refl h (none_holds more)
-  where
-    by : (b : Bool) → check.0 ≡ b → cond b (Some check.1) (first_refusal more) ≡ None → (first_refusal more ≡ None → NoneHolds more) → NoneHolds (check ∷ more)
-    by true is g later = cc
-    by false is g later = (is, later g)
-
-of_not : (b : Bool) → not b ≡ false → b ≡ true
-of_not true e = refl
-of_not false e = cc
-
-none_of : {A : Type 0} (o : Option A) → is_some o ≡ false → o ≡ None
-none_of None e = refl
-none_of (Some a) e = let wrong : true ≡ false = e in cc
-
-never : (b : Bool) → b ≡ false → b ≡ true → ⊥
-never b f t = let wrong : true ≡ false = sym t ∙ f in absurd cc
-
-neither : (a b : Bool) → (a || b) ≡ false → (a ≡ false) × (b ≡ false)
-neither true b e = let wrong : true ≡ false = e in cc
-neither false b e = (refl, e)
-
-attached : (state : Option Away) → is_detached state ≡ false → is_suspect state ≡ false → is_attached state ≡ true
-attached None d s = refl
-attached (Some away.Detached) d s = let wrong : true ≡ false = d in cc
-attached (Some away.Suspect) d s = let wrong : true ≡ false = s in cc
 
 accepted_by : (image : Image) (c : Command) → Refuses c None image → NoneHolds (checks (standing_with image nobody) 0 c)
 unfolding refusal

@@ -1,2 +1,4 @@
+pub mod Adding
 pub mod Changes
+pub mod Overlapping
 pub mod Planning

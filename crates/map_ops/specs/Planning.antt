@@ -1,11 +1,17 @@
 -- What a plan says.
-use Rattle.std.specs.Prelude.{◌≡◌, ℕ, Bool, true, false, ◌&&◌, not, Option, None, Result, Ok, Err, List, []}
+use Rattle.std.specs.Prelude.{◌≡◌, ℕ, Bool, true, false, ◌&&◌, ◌||◌, not, Option, Some, None, Result, Ok, Err, List, [], IsTrue}
+use Rattle.std.specs.List.{AllByRecursion}
 use Rattle.cell_world.specs.Images.{Image, global}
-use Rattle.cell_world.specs.Plain.{PlainState, Connections}
+use Rattle.cell_world.specs.Lawful.{Lawful}
+use Rattle.cell_world.specs.Plain.{PlainState, Connections, with_connections}
 use Rattle.cell_world.specs.Meaning.{meaning}
 use Rattle.cell_world.specs.Operations.{conflicts}
 use Rattle.cell_world.specs.Sound.{Sound, HasLog}
+use Rattle.cell_world.specs.Spelled.{is_spelled, listed}
+use Rattle.cell_world.specs.declared.cells.Cell.TheVariants as cell
+use Rattle.cell_world.specs.declared.cells.Token.{Token}
 use Rattle.cell_world.specs.declared.changes.Edit.{Edit}
+use Rattle.cell_world.specs.declared.operations.Extra.TheVariants as extra
 use Rattle.cell_world.specs.declared.operations.Op.{Op}
 use Rattle.cell_world.specs.declared.operations.Reach.{Reach}
 use Rattle.global_tables.specs.Known.{Known, known_of}
@@ -17,8 +23,9 @@ use Rattle.plain_model.specs.declared.plans.PlanStop.{PlanStop}
 use Rattle.plain_model.specs.declared.plans.PlanStop.TheVariants as stop
 use Rattle.plain_model.specs.declared.replies.Reply.{Reply}
 use Rattle.plain_model.specs.declared.replies.Refusal.{Refusal}
+use Rattle.plain_model.specs.Legal.{IsOwnOf}
 use Rattle.plain_model.specs.OnTrail.{logs_put, reach_of_command}
-use Rattle.plain_model.specs.Refusing.{Check, refusal}
+use Rattle.plain_model.specs.Refusing.{Check, refusal, locked}
 use Rattle.plain_model.specs.ShortCommands.{is_short, is_short_answer, is_short_refusal, standing_with, IsShortChange, IsShortAnswer, IsRefusedWith}
 
 -- the short commands that aren't planned yet
@@ -27,9 +34,29 @@ is_unbuilt (command.Lock name key token) = true
 is_unbuilt (command.Unlock name key token) = true
 is_unbuilt other = false
 
--- the commands that are planned here
+-- the short commands that are planned here
 abbrev pub is_planned : Command → Bool
 is_planned c = is_short c && not (is_unbuilt c)
+
+-- the long commands that are planned here
+abbrev pub is_long_planned : Command → Bool
+is_long_planned (command.Add name low high location) = true
+is_long_planned (command.Addpoint name key location) = true
+is_long_planned other = false
+
+-- the commands that may be asked
+abbrev pub is_asked : Command → Bool
+is_asked c = is_planned c || is_long_planned c
+
+-- the token that a command gives, if it gives one
+abbrev pub given_token : Command → Option Token
+given_token (command.Delete name key token) = token
+given_token (command.Offline name key token) = token
+given_token (command.Online name key token) = token
+given_token (command.Move name key location token) = token
+given_token (command.Split name key token) = token
+given_token (command.Merge name key token) = token
+given_token other = None
 
 -- ---- on an image
 
@@ -62,11 +89,24 @@ pub record PlansChange (c : Command) (reached : Reach) (change : List Edit) (r :
   -- once no logged operation conflicts with the reach, the change makes what the plain step makes, for any session
   pub changes : NoneInWay image reached → (session : ℕ) → IsShortChange session c change r image
 
+-- The plan of a long operation.
+pub record PlansLong (c : Command) (op : Op) (image : Image) : Type 0 where
+  -- the plain step doesn't refuse
+  pub accepts : Refuses c None image
+  -- the image admits the operation, whatever number it is given
+  pub lawful : Lawful image op
+  -- it replaces what the command exchanges, whoever is connected
+  pub own : (connections : Connections) → IsOwnOf (with_connections (meaning image) connections) c None image op
+  -- it goes on with no job
+  pub no_job : op.extra ≡ extra.None
+  -- and the command's token opens each mapping that it replaces
+  pub tokens : AllByRecursion (λ old. (locked (given_token c) (Some old)).0 ≡ false) (listed op.olds)
+
 -- On this image the plan is the plain step's, for any session.
 abbrev pub Plans : Command → Result Plan PlanStop → Image → Type 0
 Plans c (Ok (plan.Short reached change r)) image = PlansChange c reached change r image
 Plans c (Ok (plan.Answer r)) image = (session : ℕ) → IsShortAnswer session c r image
-Plans c (Ok (plan.Long op)) image = ⊥
+Plans c (Ok (plan.Long op)) image = PlansLong c op image
 Plans c (Err (stop.Refused r)) image = (session : ℕ) → IsRefusedWith session c r image
 Plans c (Err stop.Store) image = Unit {0}
 Plans c (Err stop.Memory) image = Unit {0}
@@ -81,7 +121,7 @@ PlansOf known c result = (image : Image) → PlansWith known c result image
 
 -- ---- whatever the image
 
--- No plan is a long one or puts a log cell, and what is answered or refused is said by a short command.
+-- So is the plan of a short command: it is no long one and puts no log cell, and what is answered or refused is said by a short command.
 abbrev pub IsShortPlan : Result Plan PlanStop → Type 0
 IsShortPlan (Ok (plan.Short reached change r)) = (logs_put change ≡ []) × (is_short_answer r ≡ true)
 IsShortPlan (Ok (plan.Answer r)) = is_short_answer r ≡ true
@@ -89,6 +129,24 @@ IsShortPlan (Ok (plan.Long op)) = ⊥
 IsShortPlan (Err (stop.Refused r)) = is_short_refusal r ≡ true
 IsShortPlan (Err stop.Store) = Unit {0}
 IsShortPlan (Err stop.Memory) = Unit {0}
+
+-- So is the plan of a long command: an operation whose log cell has a spelling, or a refusal of one word.
+abbrev pub IsLongPlan : Result Plan PlanStop → Type 0
+IsLongPlan (Ok (plan.Short reached change r)) = ⊥
+IsLongPlan (Ok (plan.Answer r)) = ⊥
+IsLongPlan (Ok (plan.Long op)) = IsTrue (is_spelled (cell.Log op))
+IsLongPlan (Err (stop.Refused r)) = is_short_refusal r ≡ true
+IsLongPlan (Err stop.Store) = Unit {0}
+IsLongPlan (Err stop.Memory) = Unit {0}
+
+-- So is the plan of a command: a short one's of a short command alone, and a long one's of a long command alone.
+abbrev pub IsPlanOf : Command → Result Plan PlanStop → Type 0
+IsPlanOf c (Ok (plan.Short reached change r)) = (is_planned c ≡ true) × IsShortPlan (Ok (plan.Short reached change r))
+IsPlanOf c (Ok (plan.Answer r)) = (is_planned c ≡ true) × IsShortPlan (Ok (plan.Answer r))
+IsPlanOf c (Ok (plan.Long op)) = (is_long_planned c ≡ true) × IsLongPlan (Ok (plan.Long op))
+IsPlanOf c (Err (stop.Refused r)) = is_short_refusal r ≡ true
+IsPlanOf c (Err stop.Store) = Unit {0}
+IsPlanOf c (Err stop.Memory) = Unit {0}
 
 -- No store call failed.
 abbrev pub IsCalm : Result Plan PlanStop → Type 0

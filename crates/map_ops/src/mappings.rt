@@ -1,23 +1,20 @@
 //! The answers to `list` and `find`.
-ghost use Rattle.std.specs.Prelude.{◌≡◌, IfSome, IsErrOf, IsTrue};
+ghost use Rattle.std.specs.Prelude.{◌≡◌, IsErrOf};
 ghost use Rattle.cell_world.specs.Counts.{Rose};
-ghost use Rattle.cell_world.specs.KeyForms.{is_normal, normal_of};
 ghost use Rattle.cell_world.specs.Outside.{IfContents, IsLater};
 ghost use Rattle.plain_model.specs.declared.commands.Command.TheVariants as command;
 ghost use Rattle.map_ops.specs.Planning.{PlansWith, IsShortPlan};
 
 use crate::asking::key_type_of;
 use crate::stops::stop_of;
-use cell_world::cells::KeyType;
+use crate::words::key_in;
 use cell_world::items::Items;
 use cell_world::key_texts::KeyText;
 use cell_world::names::Name;
-use cell_world::norm_keys::NormKey;
 use cell_world::outside::World;
 use global_tables::known::KnownTables;
 use global_tables::lists::pieces_of;
 use global_tables::lookups::piece_at;
-use key_space::reading::read_key;
 use plain_model::plans::{Plan, PlanStop};
 use plain_model::replies::{Refusal, Reply};
 use std::alloc::Global;
@@ -41,21 +38,6 @@ pub fn plan_list<W: World>(
     match pieces_of(alloc, world, &name) {
         Ok(pieces) => Ok(Plan::Answer(Reply::Mappings(key_type, Items::from_vec(pieces)))),
         Err(fault) => Err(stop_of(fault)),
-    }
-}
-
-/// The key of the type that the word is, if it is one.
-fn key_in(key_type: KeyType, text: &KeyText) -> Option<NormKey>
-    ensures key { result ≡ normal_of key_type text.now }
-    ensures normal { IfSome result (λ key. IsTrue (is_normal key_type key)) }
-{
-    text.known();
-    match read_key(key_type, text.as_slice()) {
-        Ok(key) => {
-            let _type = key.kind();
-            Some(key.normal())
-        }
-        Err(_) => None,
     }
 }
 

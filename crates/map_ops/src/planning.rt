@@ -1,21 +1,29 @@
 //! The plan of a command.
-ghost use Rattle.std.specs.Prelude.{◌≡◌, IsErrOf, true};
+ghost use Rattle.std.specs.Prelude.{◌≡◌, ◌+◌, ◌≤◌, IsErrOf, true};
 ghost use Rattle.cell_world.specs.Counts.{Rose};
 ghost use Rattle.cell_world.specs.Outside.{IfContents, IsLater};
-ghost use Rattle.map_ops.specs.Planning.{PlansWith, IsShortPlan, is_planned};
+ghost use Rattle.map_ops.specs.Planning.{PlansWith, IsPlanOf, is_asked, is_long_planned};
 
-use crate::mappings::{plan_find, plan_list};
-use crate::maps::{plan_map, plan_unmap};
-use crate::shards::{plan_shard, plan_shards, plan_unshard};
-use crate::tables::plan_table;
+use crate::long_plans::plan_long;
+use crate::short_plans::plan_short;
 use cell_world::outside::World;
 use global_tables::known::KnownTables;
 use plain_model::commands::Command;
 use plain_model::plans::{Plan, PlanStop};
 use std::alloc::Global;
 
+/// Whether the command is planned as a long operation.
+fn is_long(command: &Command) -> bool
+    ensures { result ≡ is_long_planned command.now }
+{
+    matches!(
+        command,
+        Command::Add(_, _, _, _) | Command::Addpoint(_, _, _)
+    )
+}
+
 /// What is to be done for a command that is planned here, or why nothing is. Nothing is changed. `known` is the copy of
-/// the world's tables.
+/// the world's tables. A long operation has no number yet, and whether a number is left isn't looked at.
 ///
 /// `Refused`: the first refusal of the command's row that holds. `Store`: a store call failed.
 pub fn plan<W: World>(
@@ -24,24 +32,20 @@ pub fn plan<W: World>(
     known: &KnownTables,
     command: &Command,
 ) -> Result<Plan, PlanStop>
-    requires { is_planned command.now ≡ true }
-    // Where contents are told: the refusal, the reach, the change and the reply are the plain step's.
+    requires { is_asked command.now ≡ true }
+    // Where contents are told: the refusal is the plain step's; and so are the reach, the change and the reply, or the operation.
     ensures plans { IfContents (W.outside world.old).told (PlansWith known.now command.now result) }
-    // Whatever is told: no log cell is put, and what is answered is what a short command may answer.
-    ensures short { IsShortPlan result }
+    // Whatever is told: the plan is a short one or a long one, as the command is.
+    ensures of_command { IsPlanOf command.now result }
+    // The plan of a long command reads the global store twice at most.
+    ensures reads { is_long_planned command.now ≡ true → (W.outside world.new).global_reads ≤ (W.outside world.old).global_reads + 2 }
     ensures told { (W.outside world.new).told ≡ (W.outside world.old).told }
     ensures later { IsLater (W.outside world.old) (W.outside world.new) }
     ensures cause { IsErrOf result PlanStop.Store → Rose ((W.outside world.old).faults_at 0) ((W.outside world.new).faults_at 0) }
 {
-    match command {
-        Command::Map(name, kind, key_type) => plan_map(alloc, known, *name, *kind, *key_type),
-        Command::Unmap(name) => plan_unmap(alloc, known, *name),
-        Command::Shard(name, at) => plan_shard(alloc, world, known, *name, *at),
-        Command::Unshard(name, at) => plan_unshard(alloc, world, known, *name, *at),
-        Command::Shards(name) => plan_shards(alloc, world, known, *name),
-        Command::Table(name, table) => plan_table(alloc, known, *name, *table),
-        Command::Find(name, text) => plan_find(alloc, world, known, *name, text),
-        Command::List(name) => plan_list(alloc, world, known, *name),
-        _ => unreachable!(),
+    if is_long(command) {
+        plan_long(alloc, world, known, command)
+    } else {
+        plan_short(alloc, world, known, command)
     }
 }

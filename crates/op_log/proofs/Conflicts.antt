@@ -18,6 +18,10 @@ use Rattle.image_laws.proofs.CatalogCommits.{unshard_keeps_sound}
 use Rattle.image_laws.proofs.TokenImages.{put_token_sound}
 use Rattle.image_laws.proofs.RowsAtOwners.{put_sound, delete_sound}
 use Rattle.op_log.specs.ShortChanges.{ShortChange, Catalog, Unshard, Retoken, PutRow, DeleteRow}
+use Rattle.op_log.specs.JobSiteChanges.{JobSiteChange, BeginJob, FinishJob, Detach}
+use Rattle.op_log.proofs.JobBeginnings.{begun_sound}
+use Rattle.op_log.proofs.JobFinishes.{finished_sound}
+use Rattle.op_log.proofs.Detaching.{detached_sound}
 
 -- two tests that follow from each other are one
 same_test : (a b : Bool) → (a ≡ true → b ≡ true) → (b ≡ true → a ≡ true) → a ≡ b
@@ -64,3 +68,27 @@ short_log image reached after (DeleteRow r row p owned online here is) = ap (λ 
 pub short_lawful : (image : Image) → Sound image → (reached : Reach) (after : Image) → ShortChange image reached after → ((op : Op) → HasLog (global image).log op → conflicts reached op ≡ false) → (op : Op) → HasLog (global image).log op → Lawful after op
 short_lawful image sound reached after change clear op h =
     (short_sound image sound reached after change clear).logged.lawful op (subst (λ (log : Log). HasLog log op) (sym (short_log image reached after change)) h)
+
+-- ---- jobs and sites
+
+module _ (image : Image) (sound : Sound image) (reached : Reach) (after : Image) (change : JobSiteChange image reached after) (clear : (op : Op) → HasLog (global image).log op → conflicts reached op ≡ false) where
+  -- A change of a job or a site that conflicts with no logged operation keeps an image sound.
+  pub job_site_sound : Sound after
+  job_site_sound = by change
+    where
+      by : JobSiteChange image reached after → Sound after
+      by (BeginJob p r low high target batch may is) =
+          subst Sound (sym is) (begun_sound image sound p low high target batch may (λ op h. clear_of p op (ap (λ x. conflicts x op) (sym r) ∙ clear op h)))
+      by (FinishJob r job has at_finish mappings freed is) = subst Sound (sym is) (finished_sound image sound job has at_finish mappings freed)
+      by (Detach location r quiet is) = subst Sound (sym is) (detached_sound image location sound (λ op h. ap (λ x. conflicts x op) (sym r) ∙ clear op h) quiet)
+
+-- It leaves the log as it is.
+pub job_site_log : (image : Image) (reached : Reach) (after : Image) → JobSiteChange image reached after → (global after).log ≡ (global image).log
+job_site_log image reached after (BeginJob p r low high target batch may is) = ap (λ i. (global i).log) is
+job_site_log image reached after (FinishJob r job has at_finish mappings freed is) = ap (λ i. (global i).log) is
+job_site_log image reached after (Detach location r quiet is) = ap (λ i. (global i).log) is
+
+-- And each logged operation lawful.
+pub job_site_lawful : (image : Image) → Sound image → (reached : Reach) (after : Image) → JobSiteChange image reached after → ((op : Op) → HasLog (global image).log op → conflicts reached op ≡ false) → (op : Op) → HasLog (global image).log op → Lawful after op
+job_site_lawful image sound reached after change clear op h =
+    (job_site_sound image sound reached after change clear).logged.lawful op (subst (λ (log : Log). HasLog log op) (sym (job_site_log image reached after change)) h)

@@ -1,2 +1,4 @@
+pub mod JobChanges
+pub mod JobSiteChanges
 pub mod ShortChanges
 pub mod Sites

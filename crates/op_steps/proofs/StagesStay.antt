@@ -6,7 +6,6 @@ use Rattle.std.proofs.lemmas.Cmp.{nat_cmp_total}
 use Rattle.std.proofs.lemmas.Map.Lookups.{exact_unsigned}
 use Rattle.cell_world.specs.Texts.{Text}
 use Rattle.cell_world.specs.Keys.{same, overlaps}
-use Rattle.cell_world.specs.Plain.{is_attached}
 use Rattle.cell_world.specs.Stores.{Store, Locals}
 use Rattle.cell_world.specs.Images.{Image, Place, Global, Shard, global, with_store}
 use Rattle.cell_world.specs.declared.changes.Edit.{Edit}
@@ -31,8 +30,10 @@ use Rattle.image_laws.proofs.NoMarks.{Undo, Step, none_swept, none_born, none_se
 use Rattle.image_laws.proofs.OthersStay.{done_swept, done_born, done_settled, unborn_born, unborn_settled}
 use Rattle.image_laws.proofs.SoundParts.{are_logged, births_apart}
 use Rattle.image_laws.proofs.StepLaws.{unborn_swept}
-use Rattle.image_laws.proofs.UnderWayLaws.{under_way_local, under_way_global, locals_here, locals_elsewhere}
+use Rattle.image_laws.proofs.UnderWayLaws.{under_way_local, locals_here, locals_elsewhere}
 use Rattle.op_log.specs.ShortChanges.{ShortChange, Catalog, Unshard, Retoken, PutRow, DeleteRow}
+use Rattle.op_log.specs.JobSiteChanges.{JobSiteChange, BeginJob, FinishJob, Detach}
+use Rattle.op_log.proofs.Detaching.{was_attached}
 use Rattle.op_steps.specs.Passing.{changed_at}
 use Rattle.op_steps.specs.Undoing.{UndoStep, AtSite, LogRow}
 use Rattle.op_steps.specs.Beginning.{Logs}
@@ -78,21 +79,18 @@ module _ (image : Image) (sound : Sound image) (op other : Op) (ne : other.numbe
   swept_done logged mark after swept done =
       done_swept (global image).maps (global image).mappings (sound_mappings image sound) (global image).log (next_operation image) (are_logged image sound) op other logged (logged_apart image sound op other logged also ne) l (locals_at image l) (sound.locals l here) done mark after swept
 
--- ---- a change of the global store alone
+-- ---- a change of the global store alone, after which no other site is attached than was
 
-module _ (op : Op) (image : Image) (g : Store) (away : g.away ≡ (global image).away) (logged : HasLog (global image).log op → HasLog g.log op) (none : map.get (global image).log op.number ≡ None → map.get g.log op.number ≡ None)
+module _ (op : Op) (image : Image) (g : Store) (was : (x : Text) → IsAttachedIn (with_store image Global g) x → IsAttachedIn image x) (logged : HasLog (global image).log op → HasLog g.log op) (none : map.get (global image).log op.number ≡ None → map.get g.log op.number ≡ None)
     (next : op.number < next_operation image → op.number < (counters_of g.counter).operation) where
   abbrev after : Image
   after = with_store image Global g
 
-  at_before : (x : Text) → IsAttachedIn after x → IsAttachedIn image x
-  at_before x at = record { known = at.known; attached = subst (λ a. is_attached (map.get a x) ≡ true) away at.attached }
-
   way_global : (sites : List Text) → IsUnderWay image op sites → IsUnderWay after op sites
-  way_global sites w = under_way_global image op sites w g (logged w.logged) away
+  way_global sites w = record { logged = logged w.logged; done = w.done; unborn = λ x at out. w.unborn x (was x at) out }
 
   committed_global : IsCommitted op image → IsCommitted op after
-  committed_global c = record { out = (none c.out.0, next c.out.1); elsewhere = λ x at out. c.elsewhere x (at_before x at) out; sites = c.sites; known = c.known }
+  committed_global c = record { out = (none c.out.0, next c.out.1); elsewhere = λ x at out. c.elsewhere x (was x at) out; sites = c.sites; known = c.known }
 
   stage_global : (name : StageName) → AtStage op name image → AtStage op name after
   stage_global Logged w = way_global [] w
@@ -104,7 +102,7 @@ module _ (op : Op) (image : Image) (g : Store) (away : g.away ≡ (global image)
     (
       (none c.1.0.0, next c.1.0.1),
       all_from (λ x. IsAttachedIn after x → HasNoMark op (locals_at image x)) (sites_of op)
-          (λ x h at. all_at (λ y. IsAttachedIn image y → HasNoMark op (locals_at image y)) (sites_of op) c.1.1 x h (at_before x at)),
+          (λ x h at. all_at (λ y. IsAttachedIn image y → HasNoMark op (locals_at image y)) (sites_of op) c.1.1 x h (was x at)),
     ),
   )
 
@@ -127,7 +125,7 @@ module _ (op other : Op) (name : StageName) (image : Image) (place : Place) (cha
       (λ unborn. unborn_born op.number other.number s.location _ s.stepped.middle s.last turned s.stepped.born (unborn_swept (global image).log other (Old other.number) (locals_at image s.location) s.stepped.middle op.number s.stepped.swept unborn))
       (λ clean. none_born op other.number ne s.location _ s.stepped.middle s.last s.stepped.born (none_swept op other (global image).log (Old other.number) (Step other.number refl ne) (locals_at image s.location) s.stepped.middle s.stepped.swept clean))
       name at)
-  advance_leaves (Committing c) = subst (AtStage op name) (sym c.is) (stage_global op image _ refl removed (removed_none image op other) (λ lt. lt) name at)
+  advance_leaves (Committing c) = subst (AtStage op name) (sym c.is) (stage_global op image _ (λ x now. now) removed (removed_none image op other) (λ lt. lt) name at)
   advance_leaves (Settling s) = subst (AtStage op name) (sym s.is) (stage_local op image s.location s.last
       (λ logged done. done_settled other.number (locals_at image s.location) s.last s.settled op s.location turned done)
       (λ unborn. unborn_settled other.number (locals_at image s.location) s.last s.settled op.number unborn)
@@ -140,7 +138,7 @@ module _ (op other : Op) (name : StageName) (image : Image) (place : Place) (cha
       (λ unborn. unborn_swept (global image).log other Plain (locals_at image u.location) u.last op.number u.swept unborn)
       (λ clean. none_swept op other (global image).log Plain (Undo refl) (locals_at image u.location) u.last u.swept clean)
       name at)
-  undo_leaves (LogRow d) = subst (AtStage op name) (sym d.is) (stage_global op image _ refl removed (removed_none image op other) (λ lt. lt) name at)
+  undo_leaves (LogRow d) = subst (AtStage op name) (sym d.is) (stage_global op image _ (λ x now. now) removed (removed_none image op other) (λ lt. lt) name at)
 
 -- the number of an operation at a stage was given
 number_given : (op : Op) (name : StageName) (image : Image) → Sound image → AtStage op name image → op.number < next_operation image
@@ -151,7 +149,7 @@ number_given op Committed image sound c = c.out.1
 number_given op Settled image sound c = c.0.out.1
 
 pub begin_leaves : (op other : Op) (name : StageName) (image : Image) (place : Place) (change : List Edit) → Sound image → AtStage op name image → Logs other image place change → AtStage op name (changed_at image place change)
-begin_leaves op other name image place change sound at l = subst (AtStage op name) (sym l.is) (stage_global op image _ refl (λ h. inserted ∙ h) (λ e. inserted ∙ e) (λ lt. omega (arith, lt)) name at)
+begin_leaves op other name image place change sound at l = subst (AtStage op name) (sym l.is) (stage_global op image _ (λ x now. now) (λ h. inserted ∙ h) (λ e. inserted ∙ e) (λ lt. omega (arith, lt)) name at)
   where
     apart : op.number ≢ other.number
     apart e = let given = number_given op name image sound at in let same : other.number ≡ next_operation image = l.number in absurd (omega (arith, given, same, e))
@@ -189,8 +187,13 @@ row_leaves op name image l s e = by name
     by Settled c = (kept c.0, subst (λ (t : MarkTables). MarkedOn t op Settled) tables c.1)
 
 pub short_leaves : (op : Op) (name : StageName) (reached : Reach) (image now : Image) → AtStage op name image → ShortChange image reached now → AtStage op name now
-short_leaves op name reached image now at (Catalog r maps shards tables serves is) = subst (AtStage op name) (sym is) (stage_global op image _ refl (λ h. h) (λ e. e) (λ lt. lt) name at)
-short_leaves op name reached image now at (Unshard map_name location r here unmapped untargeted is) = subst (AtStage op name) (sym is) (stage_global op image _ refl (λ h. h) (λ e. e) (λ lt. lt) name at)
-short_leaves op name reached image now at (Retoken p has r token old_free new_free is) = subst (AtStage op name) (sym is) (stage_global op image _ refl (λ h. h) (λ e. e) (λ lt. lt) name at)
+short_leaves op name reached image now at (Catalog r maps shards tables serves is) = subst (AtStage op name) (sym is) (stage_global op image _ (λ x now. now) (λ h. h) (λ e. e) (λ lt. lt) name at)
+short_leaves op name reached image now at (Unshard map_name location r here unmapped untargeted is) = subst (AtStage op name) (sym is) (stage_global op image _ (λ x now. now) (λ h. h) (λ e. e) (λ lt. lt) name at)
+short_leaves op name reached image now at (Retoken p has r token old_free new_free is) = subst (AtStage op name) (sym is) (stage_global op image _ (λ x now. now) (λ h. h) (λ e. e) (λ lt. lt) name at)
 short_leaves op name reached image now at (PutRow r row bytes p owned online here tabled is) = subst (AtStage op name) (sym is) (row_leaves op name image p.location _ refl at)
 short_leaves op name reached image now at (DeleteRow r row p owned online here is) = subst (AtStage op name) (sym is) (row_leaves op name image p.location _ refl at)
+
+pub job_site_leaves : (op : Op) (name : StageName) (reached : Reach) (image now : Image) → AtStage op name image → JobSiteChange image reached now → AtStage op name now
+job_site_leaves op name reached image now at (BeginJob p r low high target batch may is) = subst (AtStage op name) (sym is) (stage_global op image _ (λ x now. now) (λ h. h) (λ e. e) (λ lt. lt) name at)
+job_site_leaves op name reached image now at (FinishJob r job has at_finish mappings freed is) = subst (AtStage op name) (sym is) (stage_global op image _ (λ x now. now) (λ h. h) (λ e. e) (λ lt. lt) name at)
+job_site_leaves op name reached image now at (Detach location r quiet is) = subst (AtStage op name) (sym is) (stage_global op image _ (was_attached image location) (λ h. h) (λ e. e) (λ lt. lt) name at)

@@ -8,6 +8,7 @@ ghost use Rattle.cell_world.specs.declared.operations.Op.{Op};
 ghost use Rattle.cell_world.specs.declared.operations.StageName.{StageName};
 ghost use Rattle.cell_world.specs.declared.operations.Reach.{Reach};
 ghost use Rattle.cell_world.specs.declared.changes.Edit.{Edit};
+ghost use Rattle.op_log.specs.JobSiteChanges.{JobSiteChange};
 ghost use Rattle.op_log.specs.ShortChanges.{ShortChange};
 ghost use Rattle.op_steps.specs.Advancing.{AdvanceStep, AtStage, StepFrom};
 ghost use Rattle.op_steps.specs.Beginning.{BeginStep, ClearsAndTries, Logs};
@@ -40,12 +41,13 @@ pub fn stages_are_marked()
     ensures { (op : Op) (name : StageName) (image : Image) → Sound image → AtStage op name image → Marked image op name }
 {}
 
-/// What is carried of an operation at a stage stays while another one goes on, is undone, or begins, and through each short change and each row that is put or deleted. Marked at a stage, at Settled too, it stays so; no mark of it comes to another site.
+/// What is carried of an operation at a stage stays while another one goes on, is undone, or begins, and through each short change, each row that is put or deleted, the beginning and the finish of a job, and where a site is detached. Marked at a stage, at Settled too, it stays so; no mark of it comes to another site.
 pub fn others_leave_stages()
     ensures goes_on { (op other : Op) (name : StageName) (image : Image) (place : Place) (change : List Edit) → Sound image → other.number ≢ op.number → AtStage op name image → AdvanceStep other image place change → AtStage op name (changed_at image place change) }
     ensures undone { (op other : Op) (name : StageName) (image : Image) (place : Place) (change : List Edit) → Sound image → other.number ≢ op.number → AtStage op name image → UndoStep other image place change → AtStage op name (changed_at image place change) }
     ensures begins { (op other : Op) (name : StageName) (image : Image) (place : Place) (change : List Edit) → Sound image → AtStage op name image → Logs other image place change → AtStage op name (changed_at image place change) }
     ensures short { (op : Op) (name : StageName) (reached : Reach) (image after : Image) → AtStage op name image → ShortChange image reached after → AtStage op name after }
+    ensures jobs_and_sites { (op : Op) (name : StageName) (reached : Reach) (image after : Image) → AtStage op name image → JobSiteChange image reached after → AtStage op name after }
 {}
 
 /// The log row of an operation that begins is the only log cell that a transaction was to put, made or not: it has the number that stands, and where it is made the next one stands afterwards. The others leave the counter of operations.

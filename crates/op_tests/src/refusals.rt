@@ -1,5 +1,5 @@
 //! The refusals of each command, in the order of the command table.
-use crate::stores::{here, key, name, place, put, refusal, store};
+use crate::stores::{here, key, name, place, put, refusal, store, store_away};
 use cell_world::cells::{Away, Cell, KeyType, MapKind};
 use cell_world::key_texts::KeyText;
 use cell_world::operations::{JobRow, Phase};
@@ -65,13 +65,6 @@ fn of_list(alloc: Global, world: &mut MemoryWorld, map: &[u8]) -> Result<Option<
 
 fn of_shards(alloc: Global, world: &mut MemoryWorld, map: &[u8]) -> Result<Option<Refusal>, Fail> {
     refusal(alloc, world, &Command::Shards(name(map)?))
-}
-
-/// The store with the site in a state.
-fn store_away(alloc: Global, state: Away) -> Result<MemoryWorld, Fail> {
-    let mut world = store(alloc)?;
-    put(alloc, &mut world, Cell::SiteState(here()?, state))?;
-    Ok(world)
 }
 
 /// A job of a map from a location that nobody knows to the one that is known.

@@ -1,9 +1,9 @@
 //! A small store, and what a command is told over it.
 ghost use Rattle.std.specs.Prelude.{◌≡◌, true, IsTrue};
 ghost use Rattle.cell_world.specs.Spelled.{is_spelled};
-ghost use Rattle.map_ops.specs.Planning.{is_planned};
+ghost use Rattle.map_ops.specs.Planning.{is_asked};
 
-use cell_world::cells::{Cell, KeyType, MapKind, Site, Status};
+use cell_world::cells::{Away, Cell, KeyType, MapKind, Site, Status};
 use cell_world::changes::Change;
 use cell_world::locations::Location;
 use cell_world::names::Name;
@@ -104,13 +104,20 @@ pub(crate) fn store(alloc: Global) -> Result<MemoryWorld, Fail> {
     Ok(world)
 }
 
+/// The store with the site in a state.
+pub(crate) fn store_away(alloc: Global, state: Away) -> Result<MemoryWorld, Fail> {
+    let mut world = store(alloc)?;
+    put(alloc, &mut world, Cell::SiteState(here()?, state))?;
+    Ok(world)
+}
+
 /// The plan of a command over the world, by a copy of its tables as they stand.
 pub(crate) fn planned(
     alloc: Global,
     world: &mut MemoryWorld,
     command: &Command,
 ) -> Result<Result<Plan, PlanStop>, Fail>
-    requires { is_planned command.now ≡ true }
+    requires { is_asked command.now ≡ true }
 {
     let known = KnownTables::read(alloc, world)?;
     Ok(plan(alloc, world, &known, command))
@@ -122,7 +129,7 @@ pub(crate) fn refusal(
     world: &mut MemoryWorld,
     command: &Command,
 ) -> Result<Option<Refusal>, Fail>
-    requires { is_planned command.now ≡ true }
+    requires { is_asked command.now ≡ true }
 {
     let found = planned(alloc, world, command)?;
     match &found {
@@ -134,7 +141,7 @@ pub(crate) fn refusal(
 
 /// Does a command: its change is committed.
 pub(crate) fn done(alloc: Global, world: &mut MemoryWorld, command: &Command) -> Result<usize, Fail>
-    requires { is_planned command.now ≡ true }
+    requires { is_asked command.now ≡ true }
 {
     let found = planned(alloc, world, command)?;
     match &found {
@@ -143,5 +150,20 @@ pub(crate) fn done(alloc: Global, world: &mut MemoryWorld, command: &Command) ->
             Ok(change.as_slice().len())
         }
         _ => Err(Fail::from("no change")),
+    }
+}
+
+/// Puts the new mapping of a long plan, as if its operation had committed.
+pub(crate) fn put_new(
+    alloc: Global,
+    world: &mut MemoryWorld,
+    found: &Result<Plan, PlanStop>,
+) -> Result<(), Fail> {
+    match found {
+        Ok(Plan::Long(op)) => match &op.news.one {
+            Some(piece) => put(alloc, world, Cell::Piece(*piece)),
+            None => Err(Fail::from("no new mapping")),
+        },
+        _ => Err(Fail::from("no operation")),
     }
 }

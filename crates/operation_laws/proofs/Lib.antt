@@ -2,6 +2,7 @@ pub mod AddAtCommit
 pub mod AloneFails
 pub mod AtCommit
 pub mod Beginnings
+pub mod CalmCourses
 pub mod CalmSteps
 pub mod CoreCourses
 pub mod Done
@@ -12,6 +13,7 @@ pub mod FirstImage
 pub mod Full
 pub mod GivenNumbers
 pub mod Left
+pub mod Lifts
 pub mod MappingAtCommit
 pub mod OwnSteps
 pub mod Pending
@@ -21,3 +23,4 @@ pub mod ShortStands
 pub mod Stages
 pub mod Standing
 pub mod Timelines
+pub mod ToldLaws

@@ -8,3 +8,4 @@ pub mod courses;
 pub mod recovering;
 pub mod settling;
 pub mod short;
+pub mod telling;

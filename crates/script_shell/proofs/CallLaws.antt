@@ -2,9 +2,10 @@
 use Rattle.std.proofs.Common.{◌≡◌, ◌≢◌, ◌⊎◌, inl, inr, ⊎_elim, ℕ, ◌+◌, ◌<◌, ◌≤◌, Bool, true, false, List, [], ◌∷◌, length, Option, Some, None, option_map, refl, sym, ap, ◌∙◌, subst, arith}
 use Rattle.std.specs.Bool.{MatchBool}
 use Rattle.cell_world.specs.Texts.{Text}
-use Rattle.cell_world.specs.Counts.{Rose, NeverFall, StoreRose, store_count}
-use Rattle.cell_world.specs.Images.{global}
+use Rattle.cell_world.specs.Counts.{Rose}
+use Rattle.cell_world.specs.Images.{Image, global, image_at, end_of_trail}
 use Rattle.cell_world.specs.Outside.{Outside, Told, TellsNothing, TellsContents, TellsTrail, IfContents, IsLater, StoreRoseBy}
+use Rattle.cell_world.proofs.ContentsLaws.{contents_weaker}
 use Rattle.cell_world.proofs.OutsideLaws.{later_same, later_then, store_rose_none, store_rose_one}
 use Rattle.plain_model.specs.declared.commands.Asked.{Asked}
 use Rattle.plain_model.specs.declared.finish.Reason.{Reason}
@@ -13,14 +14,15 @@ use Rattle.plain_model.specs.declared.finish.RunStatus.TheVariants as status
 use Rattle.plain_model.specs.declared.history.Entry.{Entry}
 use Rattle.plain_model.specs.Written.{EachReply}
 use Rattle.plain_model.specs.Headline.{is_done, Causes, StatusCause, ComesByInput, ComesByOpening, TellsUnknown, StatusHasCause, EachOnceInOrder, faults, did_nothing}
-use Rattle.plain_model.specs.RunSoFar.{resting}
-use Rattle.plain_model.proofs.RunSoFar.{keeps_none, contents_none}
-use Rattle.plain_model.proofs.RunsAreHeadlines.{holds_on_trail, holds_by_states, is_headline, is_headline_alone}
+use Rattle.plain_model.proofs.RunsAreHeadlines.{ends_on_trail, ends_by_states, is_headline, is_headline_alone}
+use Rattle.session_laws.specs.Contract.{at_rest, course_of}
+use Rattle.session_laws.proofs.ContractLaws.{core_has_gone_on, core_has_gone_to}
 use Rattle.plain_runs.specs.PlainRuns.{IsPlainRun}
 use Rattle.cell_world.specs.Sound.{Sound}
 use Rattle.manager_core.specs.Answering.{NoLog}
 use Rattle.site_names.specs.Named.{TellsFirst}
-use Rattle.manager_core.specs.Cores.{FaultHasCause}
+use Rattle.manager_core.specs.Cores.{FaultHasCause, KnowsAll, Opens, IsRecovered, AreRecovered}
+use Rattle.manager_core.proofs.OpeningLaws.{opens_untouched, rose_by_before}
 use Rattle.manager_core.specs.declared.opening.StartFault.{StartFault}
 use Rattle.manager_core.specs.declared.opening.StartFault.TheVariants as start
 use Rattle.script_lang.specs.declared.programs.Program.TheVariants.{Ctl}
@@ -151,16 +153,6 @@ module _ (words : List Text) (left after : Option Text) (faults_before faults_af
 rose_before : (a b c : ℕ) → a ≤ b → Rose b c → Rose a c
 rose_before a b c up rose = omega (arith, rose, up)
 
-sums_up : (n : ℕ) (old new : ℕ → ℕ) → NeverFall old new → store_count n old ≤ store_count n new
-sums_up Rattle.std.proofs.Common.zero old new up = omega arith
-sums_up (Rattle.std.proofs.Common.suc n) old new up = omega (arith, sums_up n old new up, up n)
-
-store_rose_before : (n by : ℕ) (a b c : ℕ → ℕ) → NeverFall a b → StoreRose n by b c → StoreRose n by a c
-store_rose_before n by a b c up rose = ⊎_elim (λ last. inl last) (λ more. inr (omega (arith, more, sums_up n a b up))) rose
-
-rose_by_before : (by : ℕ) (a b c : Outside) → IsLater a b → StoreRoseBy by b c → StoreRoseBy by a c
-rose_by_before by a b c later rose = store_rose_before (length a.locations + 1) by a.faults_at b.faults_at c.faults_at later.faults (subst (λ l. StoreRose (length l + 1) by b.faults_at c.faults_at) later.locations rose)
-
 -- ---- nothing was asked
 
 served_nothing : (ending : RunStatus) → EachOnceInOrder for_now [] [] ending
@@ -174,8 +166,17 @@ served_none script ending not_done = record {
   all_after_fault = λ goes failed some. absurd (omega (arith, some));
 }
 
--- what is told stays
-module _ (words : List Text) (left after : Option Text) (faults_before faults_after : ℕ) (old new : Outside) (ending : RunStatus) (bytes : Text) (script : List Asked) (same : new.told ≡ old.told) (later : IsLater old new) where
+-- the stores name no unknown location
+none_unknown : (old : Outside) → KnowsAll old → (location : Text) → TellsUnknown old location → ⊥
+none_unknown old all location = by old.told all
+  where
+    by : (told : Told) → IfContents told (λ image. TellsFirst (global image) old.locations None) → TellsUnknown (record old { told = told }) location → ⊥
+    by TellsNothing all is = is
+    by (TellsContents image) all is = all location is
+    by (TellsTrail trail) all is = all location is
+
+-- at most the stores were opened, where the world knows all locations
+module _ (words : List Text) (left after : Option Text) (faults_before faults_after : ℕ) (old new : Outside) (ending : RunStatus) (bytes : Text) (script : List Asked) (opens : Opens old.told new.told) (untouched_or : (new.told ≡ old.told) ⊎ KnowsAll old) (unchanged : did_nothing ending ≡ true → new.told ≡ old.told) (later : IsLater old new) where
   abbrev causes : Causes
   causes = causes_of words bytes faults_before faults_after
 
@@ -183,9 +184,9 @@ module _ (words : List Text) (left after : Option Text) (faults_before faults_af
   status_nothing cause input opening = record {
     cause = cause;
     by_input = input;
-    by_opening = λ opens. opening;
-    unknown = λ opens location told. (refl, same);
-    kept = record { few_faults = store_rose_none old new later.faults; ends_with_memory = tt; nothing = λ is. refl; unchanged = λ is. same };
+    by_opening = λ is. opening;
+    unknown = λ is location told. (refl, ⊎_elim (λ same. same) (λ all. absurd (none_unknown old all location told)) untouched_or);
+    kept = record { few_faults = store_rose_none old new later.faults; ends_with_memory = tt; nothing = λ is. refl; unchanged = unchanged };
   }
 
   module _ (given : IfTold left bytes) (read : IsRead bytes script [] ending) (untouched : (place : ℕ) → ending ≡ status.BadWords place → (after ≡ left) × (faults_after ≡ faults_before)) (in_time : ending ≡ status.ReadFault → TookAtMost script_limit left after)
@@ -203,14 +204,13 @@ module _ (words : List Text) (left after : Option Text) (faults_before faults_af
       source = source;
       handed_back = handed_back;
       later = later;
-      headline = λ before told sound no_log. is_headline for_now false causes script before old new [] ending
-          (holds_on_trail false (for_now.stops ending) script old.told new.told (resting []) [] ending
-          (subst (λ t. Rattle.plain_model.specs.RunSoFar.KeepsRun (EachReply false) old.told (resting []) t (resting []) []) (sym same) (keeps_none (EachReply false) old.told (resting [])))
-          (λ session. record { none = λ goes. refl; next = tt }) (inl refl) before told sound)
+      headline = λ before told sound. is_headline for_now false causes script before old new [] ending
+          (ends_on_trail false (for_now.stops ending) script new.told (course_of (at_rest [])) [] ending before
+          (core_has_gone_on (EachReply false) (end_of_trail before) (image_at before (end_of_trail before)) before new.told (at_rest []) [] (opens.on_trail (EachReply false) before told sound))
+          (λ session. record { none = λ goes. refl; next = tt }) (inl refl))
           served (status_nothing cause input opening);
-      headline_alone = λ first told sound no_log. is_headline_alone for_now causes script first old new [] ending
-          (holds_by_states (for_now.stops ending) script old.told new.told (resting [])
-          (subst (λ t. Rattle.plain_model.specs.RunSoFar.KeepsContents old.told (resting []) t (resting [])) (sym same) (contents_none old.told (resting []))) (λ session. record { none = λ goes. refl; next = tt }) first told sound)
+      headline_alone = λ first told sound. is_headline_alone for_now causes script first old new [] ending
+          (ends_by_states (for_now.stops ending) script first new.told (course_of (at_rest [])) (core_has_gone_to first new.told (at_rest []) (opens.by_states first told sound)) (λ session. record { none = λ goes. refl; next = tt }))
           served (status_nothing cause input opening);
       served = served;
       status = status_nothing cause input opening;
@@ -225,7 +225,7 @@ pub stops_reading : (words : List Text) (left after : Option Text) (faults_befor
 stops_reading words left after faults_before faults_after o history found ending is none stops =
     subst (λ s. RunsScript words left after faults_before faults_after o o history s) (sym is)
     (subst (λ h. RunsScript words left after faults_before faults_after o o h ending) (sym none)
-    (runs_nothing words left after faults_before faults_after o o ending stops.bytes [] refl (later_same o) stops.given (unread (has_begun ending) stops.unbegun) stops.untouched stops.in_time stops.drained stops.source
+    (runs_nothing words left after faults_before faults_after o o ending stops.bytes [] (opens_untouched o o refl (later_same o)) (inl refl) (λ is. refl) (later_same o) stops.given (unread (has_begun ending) stops.unbegun) stops.untouched stops.in_time stops.drained stops.source
     (λ of_reading. refl) (unbegun_not_done ending stops.unbegun) (served_nothing ending) (stops.cause o o) stops.by_input (λ location told. inr stops.before_opening)))
   where
     unbegun_not_done : (ending : RunStatus) → has_begun ending ≡ false → is_done ending ≡ false
@@ -259,24 +259,24 @@ module _ (words : List Text) (left after : Option Text) (faults_before faults_af
 
   -- ---- the stores couldn't be opened
 
-  pub stops_opening : (old new : Outside) (history : List Entry) (fault : StartFault) (found : RunStatus) → found ≡ unopened fault → history ≡ [] → FaultHasCause old new fault → new.told ≡ old.told → IsLater old new
+  pub stops_opening : (old new : Outside) (history : List Entry) (fault : StartFault) (found : RunStatus) → found ≡ unopened fault → history ≡ [] → FaultHasCause old new fault → Opens old.told new.told → (new.told ≡ old.told) ⊎ KnowsAll old → IsLater old new
       → RunsScript words left after faults_before faults_after old new history found
-  stops_opening old new history fault found is none caused same later =
+  stops_opening old new history fault found is none caused opens untouched_or later =
       subst (λ s. RunsScript words left after faults_before faults_after old new history s) (sym is)
       (subst (λ h. RunsScript words left after faults_before faults_after old new h (unopened fault)) (sym none) (by fault caused))
     where
       by : (fault : StartFault) → FaultHasCause old new fault → RunsScript words left after faults_before faults_after old new [] (unopened fault)
-      by start.Store rose = runs_nothing words left after faults_before faults_after old new status.StoreFault read.bytes script same later read.given read.grammar (λ place at. absurd cc) (λ at. absurd cc) (λ is. read.drained) read.source (λ is. absurd cc) refl
-          (served_none script status.StoreFault refl) (store_rose_one old new later.faults rose, inr (refl, refl), refl) (by_input status.StoreFault) (λ location told. inr refl)
-      by start.Memory caused = runs_nothing words left after faults_before faults_after old new status.Memory read.bytes script same later read.given (inl read.grammar) (λ place at. absurd cc) (λ at. absurd cc) (λ is. absurd cc) read.source (λ is. absurd cc) refl
+      by start.Store rose = runs_nothing words left after faults_before faults_after old new status.StoreFault read.bytes script opens untouched_or (λ is. absurd cc) later read.given read.grammar (λ place at. absurd cc) (λ at. absurd cc) (λ is. read.drained) read.source (λ is. absurd cc) refl
+          (served_none script status.StoreFault refl) (rose, inr (refl, refl), refl) (by_input status.StoreFault) (λ location told. inr refl)
+      by start.Memory caused = runs_nothing words left after faults_before faults_after old new status.Memory read.bytes script opens untouched_or (λ is. absurd cc) later read.given (inl read.grammar) (λ place at. absurd cc) (λ at. absurd cc) (λ is. absurd cc) read.source (λ is. absurd cc) refl
           (served_none script status.Memory refl) tt (by_input status.Memory) (λ location told. inr refl)
-      by (start.UnknownLocation location) caused = runs_nothing words left after faults_before faults_after old new (status.UnknownLocation location) read.bytes script same later read.given read.grammar (λ place at. absurd cc) (λ at. absurd cc)
+      by (start.UnknownLocation location) caused = runs_nothing words left after faults_before faults_after old new (status.UnknownLocation location) read.bytes script opens untouched_or (λ is. caused.2) later read.given read.grammar (λ place at. absurd cc) (λ at. absurd cc)
           (λ is. read.drained) read.source (λ is. absurd cc) refl (served_none script (status.UnknownLocation location) refl) (refl, caused.0, caused.1) (by_input (status.UnknownLocation location))
           (λ other told. inl (ap status.UnknownLocation (one_unknown old location other caused.1 told)))
 
   -- ---- the commands were run
 
-  module _ (old mid new : Outside) (history : List Entry) (ending : RunStatus) (same : mid.told ≡ old.told) (later : IsLater old mid) (known : IfContents old.told (λ image. TellsFirst (global image) old.locations None)) (runs : Runs script mid new history ending)
+  module _ (old mid new : Outside) (history : List Entry) (ending : RunStatus) (opens : Opens old.told mid.told) (recovered : AreRecovered old.told mid.told) (later : IsLater old mid) (known : KnowsAll old) (runs : Runs script mid new history ending)
       (cause : StatusCause for_now no_causes mid new history ending) (of_commands : is_of_commands ending ≡ true) where
     -- a status that comes of the commands has its cause, whatever words and input say
     comes : StatusCause for_now its_causes old new history ending × (did_nothing ending ≡ false)
@@ -294,21 +294,12 @@ module _ (words : List Text) (left after : Option Text) (faults_before faults_af
         by status.TooLong of cause = absurd cause
         by (status.UnknownLocation location) of cause = absurd cc
 
-    -- the stores name no unknown location
-    none_unknown : (location : Text) → TellsUnknown old location → ⊥
-    none_unknown location = by old.told known
-      where
-        by : (told : Told) → IfContents told (λ image. TellsFirst (global image) old.locations None) → TellsUnknown (record old { told = told }) location → ⊥
-        by TellsNothing all is = is
-        by (TellsContents image) all is = all location is
-        by (TellsTrail trail) all is = all location is
-
     caused : StatusHasCause for_now its_causes old new history ending
     caused = record {
       cause = comes.0;
       by_input = by_input ending;
-      by_opening = λ opens location told. absurd (none_unknown location told);
-      unknown = λ opens location told. absurd (none_unknown location told);
+      by_opening = λ is location told. absurd (none_unknown old known location told);
+      unknown = λ is location told. absurd (none_unknown old known location told);
       kept = record {
         few_faults = rose_by_before (faults history) old mid new later runs.kept.few_faults;
         ends_with_memory = runs.kept.ends_with_memory;
@@ -329,15 +320,23 @@ module _ (words : List Text) (left after : Option Text) (faults_before faults_af
       source = read.source;
       handed_back = λ is. absurd (not_both ending of_commands is);
       later = later_then old mid new later runs.later;
-      headline = λ before told sound no_log. is_headline for_now false its_causes script before old new history ending (runs.on_trail before (same ∙ told) sound no_log) runs.served caused;
-      headline_alone = λ first told sound no_log. is_headline_alone for_now its_causes script first old new history ending (runs.by_states first (same ∙ told) sound no_log) runs.served caused;
+      headline = λ before told sound. is_headline for_now false its_causes script before old new history ending
+          (runs.on_trail before (opens.on_trail (EachReply false) before told sound) (none_logged (image_at before (end_of_trail before)) (free (TellsTrail before) told sound))) runs.served caused;
+      headline_alone = λ first told sound. is_headline_alone for_now its_causes script first old new history ending (runs.by_states first (opens.by_states first told sound) (none_logged first (free (TellsContents first) told sound))) runs.served caused;
       served = runs.served;
       status = caused;
-      plain = λ done plain. subst (λ told. IfContents told (λ first. Sound first → NoLog first → IfContents new.told (λ last. IsPlainRun script first last history))) same (runs_plainly script (script_is_plain script (script_is_planned read.bytes script read.grammar)) mid new history ending runs done cause);
+      plain = λ done plain. runs_plainly script (script_is_plain script (script_is_planned read.bytes script read.grammar)) mid new history old.told opens recovered ending runs done cause;
       ends_with_fault = runs.ends_with_fault;
       no_operations = runs.no_operations;
     }
       where
+        -- afterwards no operation is logged
+        none_logged : (first : Image) → IfContents mid.told (IsRecovered first) → IfContents mid.told NoLog
+        none_logged first all = contents_weaker mid.told (IsRecovered first) NoLog (λ image r. r.no_log) all
+
+        free : (told : Told) → old.told ≡ told → IfContents told (λ first. Sound first → IfContents mid.told (λ last. IsRecovered first last))
+        free told is = subst (λ t. IfContents t (λ first. Sound first → IfContents mid.told (λ last. IsRecovered first last))) is recovered
+
         not_both : (ending : RunStatus) → is_of_commands ending ≡ true → is_of_reading ending ≡ true → ⊥
         not_both status.Done of is = absurd cc
         not_both status.Refused of is = absurd cc

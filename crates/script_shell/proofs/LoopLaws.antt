@@ -21,9 +21,10 @@ use Rattle.plain_model.specs.Written.{EachReply}
 use Rattle.plain_model.specs.Headline.{faults, EndsAnswered, EndsWithMemory, has_stopped, is_done, did_nothing, StatusCause}
 use Rattle.plain_model.specs.RunSoFar.{EndsWritten}
 use Rattle.plain_model.proofs.HistoryLaws.{ends_answered, replies_push, memory_last, memory_none}
+use Rattle.plain_model.proofs.RunSoFar.{goes_on_then}
 use Rattle.plain_model.proofs.RunsAreHeadlines.{ends_on_trail, ends_by_states}
-use Rattle.session_laws.specs.Contract.{at_rest, KeepsCore, KeepsCoreTo}
-use Rattle.session_laws.proofs.ContractLaws.{core_begins_on, core_begins_to, core_has_gone_on, core_has_gone_to, core_kept, core_kept_then, core_kept_to, core_kept_to_then}
+use Rattle.session_laws.specs.Contract.{at_rest, CoreOn, CoreGoesOn, CoreTo, CoreGoesTo, KeepsCore, KeepsCoreTo}
+use Rattle.session_laws.proofs.ContractLaws.{core_has_gone_on, core_has_gone_to, core_kept, core_kept_then, core_kept_to, core_kept_to_then}
 use Rattle.manager_core.specs.Answering.{NoLog, IsCopy}
 use Rattle.manager_core.specs.Events.{IsEntered, Parts, ReadyAt, Enters, Comes, ComesAfter, stop_after}
 use Rattle.manager_core.specs.declared.manager.Event.TheVariants as event
@@ -226,14 +227,12 @@ finished : (script done rest : List Asked) (old new : Parts) (unwritten : Text) 
     → (ReadyAt old → KeepsCoreTo old.outside.told (at_rest old.history) new.outside.told (at_rest new.history)) → IsLater old.outside new.outside
     → (is_done ending ≡ true → rest ≡ []) → StoreRoseBy (faults new.history) old.outside new.outside → EndsWithMemory new.history → EndsWithFault new.history → did_nothing ending ≡ false → Runs script old.outside new.outside new.history ending
 finished script done rest old new unwritten ending none goes copy split answered keeps written keeps_to later all few memory fault did = record {
-  on_trail = λ before told sound no_log. ends_on_trail false (for_now.stops ending) script new.outside.told (Rattle.session_laws.specs.Contract.course_of (at_rest new.history)) unwritten ending before
-      (core_has_gone_on (EachReply false) (end_of_trail before) (image_at before (end_of_trail before)) before new.outside.told (at_rest new.history) unwritten
-      (keeps (ready (on_its_trail old.outside.told NoLog before told no_log)) (end_of_trail before) (image_at before (end_of_trail before)) before told
-      (subst (λ h. Rattle.session_laws.specs.Contract.CoreOn (EachReply false) (end_of_trail before) (image_at before (end_of_trail before)) before (at_rest h) []) (sym none) (core_begins_on (EachReply false) before sound))))
+  on_trail = λ before gone no_log. ends_on_trail false (for_now.stops ending) script new.outside.told (Rattle.session_laws.specs.Contract.course_of (at_rest new.history)) unwritten ending before
+      (core_has_gone_on (EachReply false) (end_of_trail before) (image_at before (end_of_trail before)) before new.outside.told (at_rest new.history) unwritten (on_from before gone no_log))
       (λ session. record { none = λ goes. refl; next = tt }) written;
-  by_states = λ first told sound no_log. ends_by_states (for_now.stops ending) script first new.outside.told (Rattle.session_laws.specs.Contract.course_of (at_rest new.history))
+  by_states = λ first gone no_log. ends_by_states (for_now.stops ending) script first new.outside.told (Rattle.session_laws.specs.Contract.course_of (at_rest new.history))
       (core_has_gone_to first new.outside.told (at_rest new.history)
-      (keeps_to (ready (in_its_contents old.outside.told NoLog first told no_log)) first first told (subst (λ h. Rattle.session_laws.specs.Contract.CoreTo first first (at_rest h)) (sym none) (core_begins_to first sound))))
+      (keeps_to (ready no_log) first gone.image gone.told (subst (λ h. CoreTo first gone.image (at_rest h)) (sym none) gone.core)))
       (λ session. record { none = λ goes. refl; next = tt });
   served = record {
     in_order = in_order script done rest split new.history answered (for_now.stops ending);
@@ -254,6 +253,14 @@ finished script done rest old new unwritten ending none goes copy split answered
   where
     ready : IfContents old.outside.told NoLog → ReadyAt old
     ready no_log = record { no_log = no_log; copy = λ on. copy }
+
+    -- the commands after the opening
+    on_from : (before : Trail) → CoreGoesOn (EachReply false) (end_of_trail before) (image_at before (end_of_trail before)) before old.outside.told (at_rest []) [] → IfContents old.outside.told NoLog
+        → CoreGoesOn (EachReply false) (end_of_trail before) (image_at before (end_of_trail before)) before new.outside.told (at_rest new.history) unwritten
+    on_from before gone no_log =
+        let all = keeps (ready no_log) (end_of_trail before) (image_at before (end_of_trail before)) gone.trail gone.told
+        (subst (λ h. CoreOn (EachReply false) (end_of_trail before) (image_at before (end_of_trail before)) gone.trail (at_rest h) []) (sym none) gone.core) in
+        record { trail = all.trail; told = all.told; goes_on = goes_on_then before gone.trail all.trail gone.goes_on all.goes_on; core = all.core }
 
     or_true : (b : Bool) → (b || true) ≡ false → ⊥
     or_true true is = absurd cc

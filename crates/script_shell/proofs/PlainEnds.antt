@@ -14,7 +14,9 @@ use Rattle.plain_model.specs.RunSoFar.{HoldsOnTrail, HoldsByStates}
 use Rattle.plain_model.specs.Written.{EachReply}
 use Rattle.plain_runs.specs.PlainRuns.{IsPlainRun}
 use Rattle.plain_runs.proofs.PlainHeadlines.{IsPlainAsked, plain_by_states, plain_on_trail}
+use Rattle.cell_world.proofs.ContentsLaws.{contents_weaker}
 use Rattle.manager_core.specs.Answering.{NoLog}
+use Rattle.manager_core.specs.Cores.{Opens, IsRecovered, AreRecovered}
 use Rattle.script_shell.specs.Promises.{Runs, for_now, no_causes}
 use Rattle.script_shell.proofs.LoopLaws.{on_its_trail, in_its_contents}
 
@@ -44,14 +46,18 @@ module _ (script : List Asked) (plain : AllByRecursion IsPlainAsked script) (old
         (plain_on_trail script history plain (runs.answers done) calm.no_fault calm.no_memory before holds.trail holds.goes_on
         (subst (λ stopped. Rattle.plain_model.specs.Headline.IsLegalHistory stopped holds.trail (end_of_trail before) script history) calm.goes holds.legal))
 
-    by : (told : Told) → old.told ≡ told → IfContents told (λ first. Sound first → NoLog first → IfContents new.told (Plainly first))
-    by TellsNothing is = tt
-    by (TellsContents first) is = λ sound no_log. by_states first (runs.by_states first is sound no_log)
-    by (TellsTrail before) is = λ sound no_log. on_trail before (runs.on_trail before is sound no_log)
+    none_logged : (first : Image) → IfContents old.told (IsRecovered first) → IfContents old.told NoLog
+    none_logged first free = contents_weaker old.told (IsRecovered first) NoLog (λ image r. r.no_log) free
 
-    ends_plainly : IfContents old.told (λ first. Sound first → NoLog first → IfContents new.told (Plainly first))
-    ends_plainly = by old.told refl
+    module _ (opened : Told) (opens : Opens opened old.told) (recovered : AreRecovered opened old.told) where
+      by : (told : Told) → opened ≡ told → IfContents told (λ first. Sound first → IfContents old.told (λ last. IsRecovered first last)) → IfContents told (λ first. Sound first → IfContents new.told (Plainly first))
+      by TellsNothing is free = tt
+      by (TellsContents first) is free = λ sound. by_states first (runs.by_states first (opens.by_states first is sound) (none_logged first (free sound)))
+      by (TellsTrail before) is free = λ sound. on_trail before (runs.on_trail before (opens.on_trail (EachReply false) before is sound) (none_logged (image_at before (end_of_trail before)) (free sound)))
 
-  pub runs_plainly : (ending : RunStatus) → Runs script old new history ending → is_done ending ≡ true → StatusCause for_now no_causes old new history ending
-      → IfContents old.told (λ first. Sound first → NoLog first → IfContents new.told (λ last. IsPlainRun script first last history))
-  runs_plainly ending runs done cause = ends_plainly ending runs done (calmly ending done cause)
+      ends_plainly : IfContents opened (λ first. Sound first → IfContents new.told (Plainly first))
+      ends_plainly = by opened refl recovered
+
+  pub runs_plainly : (opened : Told) → Opens opened old.told → AreRecovered opened old.told → (ending : RunStatus) → Runs script old new history ending → is_done ending ≡ true → StatusCause for_now no_causes old new history ending
+      → IfContents opened (λ first. Sound first → IfContents new.told (λ last. IsPlainRun script first last history))
+  runs_plainly opened opens recovered ending runs done cause = ends_plainly ending runs done (calmly ending done cause) opened opens recovered

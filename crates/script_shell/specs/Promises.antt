@@ -21,6 +21,7 @@ use Rattle.script_lang.specs.declared.programs.Program.TheVariants.{Ctl}
 use Rattle.script_lang.specs.CommandLine.{options_built, IsAccepted, IsBadAt}
 use Rattle.script_lang.specs.Scripts.{built, IsScript, IsFirstFaulty}
 use Rattle.script_lang.specs.Sources.{script_limit, IfTold, TookAtMost}
+use Rattle.session_laws.specs.Contract.{at_rest, CoreGoesOn, CoreGoesTo}
 use Rattle.manager_core.specs.Answering.{NoLog}
 
 -- ---- statuses
@@ -88,11 +89,11 @@ EndsWithFault (e ∷ f ∷ es) = (if_there is_fault e.reply ≡ false) × EndsWi
 
 -- How the commands of a script were run.
 pub record Runs (script : List Asked) (old new : Outside) (history : List Entry) (ending : RunStatus) : Type 0 where
-  -- from a sound image without a logged operation on, where the trail is told
-  pub on_trail : (before : Trail) → old.told ≡ TellsTrail before → Sound (image_at before (end_of_trail before)) → NoLog (image_at before (end_of_trail before))
+  -- where a core began at the end of this trail, and rests now
+  pub on_trail : (before : Trail) → CoreGoesOn (EachReply false) (end_of_trail before) (image_at before (end_of_trail before)) before old.told (at_rest []) [] → IfContents old.told NoLog
       → HoldsOnTrail (EachReply false) (for_now.stops ending) script before new.told history ending
-  -- and where the contents alone are told
-  pub by_states : (first : Image) → old.told ≡ TellsContents first → Sound first → NoLog first → HoldsByStates (for_now.stops ending) script first new.told history
+  -- and where it began with these contents
+  pub by_states : (first : Image) → CoreGoesTo first old.told (at_rest []) → IfContents old.told NoLog → HoldsByStates (for_now.stops ending) script first new.told history
   -- each command once and in order
   pub served : EachOnceInOrder for_now script history ending
   -- what the status says besides its cause
@@ -132,15 +133,15 @@ pub record RunsScript (words : List Text) (left after : Option Text) (faults_bef
   pub handed_back : is_of_reading ending ≡ true → new ≡ old
   -- and else it is the same one later
   pub later : IsLater old new
-  -- the headline, from a sound image without a logged operation on: over a world that tells its trail, and over one that tells its contents alone
-  pub headline : (before : Trail) → old.told ≡ TellsTrail before → Sound (image_at before (end_of_trail before)) → NoLog (image_at before (end_of_trail before))
+  -- the headline, from a sound image on: over a world that tells its trail, and over one that tells its contents alone
+  pub headline : (before : Trail) → old.told ≡ TellsTrail before → Sound (image_at before (end_of_trail before))
       → Headline for_now (EachReply false) (causes_of words bytes faults_before faults_after) script before old new history ending
-  pub headline_alone : (first : Image) → old.told ≡ TellsContents first → Sound first → NoLog first → HeadlineAlone for_now (causes_of words bytes faults_before faults_after) script first old new history ending
+  pub headline_alone : (first : Image) → old.told ≡ TellsContents first → Sound first → HeadlineAlone for_now (causes_of words bytes faults_before faults_after) script first old new history ending
   -- over any world the two parts of it that speak of no store
   pub served : EachOnceInOrder for_now script history ending
   pub status : StatusHasCause for_now (causes_of words bytes faults_before faults_after) old new history ending
-  -- with status 0 or 1, where all commands are plain, from a sound image without a logged operation on, where contents are told: the replies are those of the plain step, one command after the other, and the final stores stand for the state that it leaves
-  pub plain : is_done ending ≡ true → AllByRecursion (λ (asked : Asked). is_plain asked.command ≡ true) script → IfContents old.told (λ first. Sound first → NoLog first → IfContents new.told (λ last. IsPlainRun script first last history))
+  -- with status 0 or 1, where all commands are plain, from a sound image on, where contents are told: the replies are those of the plain step, one command after the other, and the final stores stand for the state that it leaves
+  pub plain : is_done ending ≡ true → AllByRecursion (λ (asked : Asked). is_plain asked.command ≡ true) script → IfContents old.told (λ first. Sound first → IfContents new.told (λ last. IsPlainRun script first last history))
   -- at most one `fault` entry, and none after it
   pub ends_with_fault : EndsWithFault history
   -- no command is an operation

@@ -4,6 +4,14 @@
 #[cfg(test)]
 mod adds;
 #[cfg(test)]
+mod leftovers;
+#[cfg(test)]
+mod parts;
+#[cfg(test)]
 mod shapes;
 #[cfg(test)]
+mod stages;
+#[cfg(test)]
 mod stores;
+#[cfg(test)]
+mod worlds;

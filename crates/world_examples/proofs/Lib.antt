@@ -1,6 +1,7 @@
 pub mod Accepting
 pub mod AtRest
 pub mod ImageParts
+pub mod Leftover
 pub mod Logged
 pub mod Marking
 pub mod Moving

@@ -115,6 +115,23 @@ b_logged = shard_with (local_row 5 10 2 Online New ∷ []) []
 abbrev pub image_logged : Image
 image_logged = image_with global_logged a_logged b_logged
 
+-- ---- an image with a leftover: nothing is mapped, [0, 10) is added at `s/a` by a logged operation, and a row there is online over it that operation 2 was to replace, which is gone
+
+abbrev pub add_anew : Op
+add_anew = record (add_of (free_piece 0 10 site_a Online)) { number = 3 }
+
+abbrev pub left_row : LocalRow
+left_row = local_row 0 10 1 Online (Old 2)
+
+abbrev pub global_anew : Store
+global_anew = global_with [] (add_anew ∷ []) [] (Some (record { operation = 4; job = 1 }))
+
+abbrev pub a_left : Store
+a_left = shard_with (left_row ∷ []) []
+
+abbrev pub image_left : Image
+image_left = image_with global_anew a_left (shard_with [] [])
+
 -- ---- the parts of sound, over short lists
 
 -- the log cells, where these mappings stand and the next operation has this number

@@ -14,7 +14,7 @@ ghost use Rattle.cell_world.specs.declared.operations.Phase.TheVariants.{Idle, C
 ghost use Rattle.cell_world.specs.declared.spans.High.TheVariants.{At, Max};
 ghost use Rattle.cell_world.specs.declared.spans.Span.TheVariants.{Range, Point};
 ghost use Rattle.world_examples.specs.Examples.{int_key, range, map_m, map_n, table_t, site_a, site_b, free_piece, job_piece, job_at, local_row, row_of, no_pieces, one_piece, op_on, add_at_a, shards_of, tables_of, away_of, maps_m, shards_ab, mappings_of, maps_of};
-ghost use Rattle.world_examples.specs.Sounds.{long_key, rows_with, global_with, global_at_rest, global_logged, image_at_rest, image_to_compare, image_detached, image_moving, image_logged, add_logged, LogCellsWith, LocalCellsWith, OnlineRowsWith, RowCellsWith, BatchRowsWith, SuspectSiteWith, JobCellsWith, IsBatchWith, IsCutOffWith, JobTokensWith};
+ghost use Rattle.world_examples.specs.Sounds.{long_key, rows_with, global_with, global_at_rest, global_logged, image_at_rest, image_to_compare, image_detached, image_moving, image_logged, image_left, add_logged, LogCellsWith, LocalCellsWith, OnlineRowsWith, RowCellsWith, BatchRowsWith, SuspectSiteWith, JobCellsWith, IsBatchWith, IsCutOffWith, JobTokensWith};
 
 // ---- whole images
 
@@ -41,6 +41,11 @@ pub fn sound_with_a_job()
 /// A mapping that goes offline and one that is added, both in the log, with their marks.
 pub fn sound_with_logged_operations()
     ensures { Sound image_logged }
+{}
+
+/// Where nothing is mapped, an online row that an operation left which is gone, under an add in the log.
+pub fn sound_with_a_leftover()
+    ensures { Sound image_left }
 {}
 
 // ---- refused: global cells

@@ -2,13 +2,13 @@ use Rattle.std.proofs.Common.{◌≡◌, ℕ, [], subst, sym}
 use Rattle.std.specs.Prelude.{Ok, Err}
 use Rattle.cell_world.specs.Outside.{IfContents}
 use Rattle.cell_world.proofs.ContentsLaws.{contents_weaker}
-use Rattle.map_ops.specs.Planning.{PlansWith, IsShortPlan}
+use Rattle.map_ops.specs.Planning.{PlansWith, IsPlanOf}
 use Rattle.plain_model.specs.declared.plans.Plan.TheVariants as plan
 use Rattle.plain_model.specs.declared.plans.PlanStop.TheVariants as stop
 use Rattle.plain_model.specs.declared.replies.Reply.TheVariants as reply
 use Rattle.plain_model.specs.ShortCommands.{IsShortChange, IsShortAnswer, IsRefusedWith}
 use Rattle.manager_core.specs.Answering.{Relies}
-use Rattle.map_ops.proofs.PlannedLaws.{planned_is_short}
+use Rattle.map_ops.proofs.PlannedLaws.{planned_is_short, short_plan}
 use Rattle.manager_core.proofs.ShortAnswers.{none_in_way, answers_fault, answers_refused, answers_answer, answers_either}
 use Rattle.manager_core.proofs.answers.answer_command.Goals as goal
 
@@ -26,7 +26,7 @@ returns-in-Ok-Short-clause-lines g c = c.no_memory.ensures.lines c.args.tag
 pub returns-in-Ok-Answer-clause-answers : goal.returns-in-Ok-Answer-clause-answers
 returns-in-Ok-Answer-clause-answers g c =
     let plans = subst (λ p. IfContents (g.W.World.outside c.args.world.now).told (PlansWith c.args.known.now c.args.command.now (Ok p))) c.in-Ok-Answer.field-0-is c.in-Ok-Answer.ensures.plans in
-    let short = subst (λ p. IsShortPlan (Ok p)) c.in-Ok-Answer.field-0-is c.in-Ok-Answer.ensures.short in
+    let short = short_plan c.args.command.now c.requires (Ok (plan.Answer c.in-Ok-Answer.reply)) (subst (λ p. IsPlanOf c.args.command.now (Ok p)) c.in-Ok-Answer.field-0-is c.in-Ok-Answer.ensures.of_command) in
     answers_either c.args.command.now (planned_is_short _ c.requires) _ _ _ c.in-Ok-Answer.reply _ c.in-Ok-Answer.ensures.told c.answer_with.ensures.reply
     (answers_answer c.args.command.now (planned_is_short _ c.requires) _ _ _ c.in-Ok-Answer.reply short c.in-Ok-Answer.ensures.told
     (contents_weaker (g.W.World.outside c.args.world.now).told (PlansWith c.args.known.now c.args.command.now (Ok (plan.Answer c.in-Ok-Answer.reply)))
@@ -35,7 +35,7 @@ returns-in-Ok-Answer-clause-answers g c =
 pub returns-in-Err-Refused-clause-answers : goal.returns-in-Err-Refused-clause-answers
 returns-in-Err-Refused-clause-answers g c =
     let plans = subst (λ s. IfContents (g.W.World.outside c.args.world.now).told (PlansWith c.args.known.now c.args.command.now (Err s))) c.in-Err-Refused.field-0-is c.in-Err-Refused.ensures.plans in
-    let short = subst (λ s. IsShortPlan (Err s)) c.in-Err-Refused.field-0-is c.in-Err-Refused.ensures.short in
+    let short = short_plan c.args.command.now c.requires (Err (stop.Refused c.in-Err-Refused.refusal)) (subst (λ s. IsPlanOf c.args.command.now (Err s)) c.in-Err-Refused.field-0-is c.in-Err-Refused.ensures.of_command) in
     answers_either c.args.command.now (planned_is_short _ c.requires) _ _ _ (reply.Refused c.in-Err-Refused.refusal) _ c.in-Err-Refused.ensures.told c.answer_with-in-Err-Refused.ensures.reply
     (answers_refused c.args.command.now (planned_is_short _ c.requires) _ _ _ c.in-Err-Refused.refusal short c.in-Err-Refused.ensures.told
     (contents_weaker (g.W.World.outside c.args.world.now).told (PlansWith c.args.known.now c.args.command.now (Err (stop.Refused c.in-Err-Refused.refusal)))

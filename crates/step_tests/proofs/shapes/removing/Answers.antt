@@ -1,6 +1,0 @@
-use Rattle.std.proofs.Common.{◌≡◌, Bool, true, ◌&&◌, ap, ◌∙◌}
-use Rattle.cell_world.proofs.SpanLaws.{same_self}
-use Rattle.step_tests.proofs.shapes.removing.Goals as goal
-
-pub returns : goal.returns
-returns c = ap (λ (b : Bool). b && true) (same_self c.args.old.map)
