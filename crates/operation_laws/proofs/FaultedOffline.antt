@@ -1,8 +1,10 @@
 -- A faulted `offline`: once its log row was tried the connections of its mapping have ended, whether it is committed or not.
-use Rattle.std.proofs.Common.{◌≡◌, ◌⊎◌, inl, inr, ⊎_elim, ℕ, ◌+◌, ◌<◌, ◌^◌, refl, sym, ap, ◌∙◌, subst, Some, None, Option, List, [], ◌∷◌, length}
-use Rattle.std.specs.Prelude.{Result, IsOk, Err}
+use Rattle.std.proofs.Common.{◌≡◌, ◌⊎◌, inl, inr, ⊎_elim, Bool, true, false, ℕ, ◌+◌, ◌<◌, ◌^◌, refl, sym, ap, ◌∙◌, subst, Some, None, Option, List, [], ◌∷◌, length}
+use Rattle.std.specs.Prelude.{Result, IsOk, Err, ◌==◌}
+use Rattle.std.specs.Bool.{MatchBool}
+use Rattle.cell_world.specs.Lists.{SomeOf}
 use Rattle.cell_world.specs.Texts.{Text}
-use Rattle.cell_world.specs.Images.{Image, Happening, after_all}
+use Rattle.cell_world.specs.Images.{Image, Happening, Committed, Wrote, Reopened, after_all}
 use Rattle.cell_world.specs.Plain.{PlainState, Connections, Held, with_connections}
 use Rattle.cell_world.specs.Marked.{committed_image}
 use Rattle.cell_world.specs.Meaning.{meaning, next_operation}
@@ -19,14 +21,17 @@ use Rattle.plain_model.specs.Refusing.{mapping_of}
 use Rattle.plain_model.specs.Steps.{plain_step, ended_under}
 use Rattle.plain_model.specs.JobSteps.{asked_job, with_ended}
 use Rattle.plain_model.specs.Follows.{Follows, FollowsFault}
-use Rattle.plain_model.specs.OnTrail.{OnTrail, FaultOnTrail, EndsIfTried}
-use Rattle.plain_model.specs.Timelines.{Timeline, Past, Entered, image_of, facts_of, happened_of, past_of}
+use Rattle.plain_model.specs.OnTrail.{OnTrail, FaultOnTrail, EndsIfTried, TakesOffline, WasTried, logs_put}
+use Rattle.plain_model.specs.Timelines.{Timeline, Past, Happened, Entered, image_of, facts_of, happened_of, past_of}
 use Rattle.plain_model.specs.Legal.{IsPlanned}
+use Rattle.plain_model.specs.GoingOn.{AreNumbered, TriesNumbered}
 use Rattle.plain_model.specs.Written.{Mode}
 use Rattle.plain_model.specs.Running.{text_of}
-use Rattle.session_laws.specs.Doing.{Resting, Working, AllDoing, Live, live_of, all_going, IsThen}
+use Rattle.session_laws.specs.Doing.{Resting, Working, AllDoing, Live, live_of, going_of, all_going, IsThen}
 use Rattle.session_laws.specs.Core.{Core, CoreAlone, Answers}
 use Rattle.session_laws.specs.Needs.{Needs}
+use Rattle.session_laws.proofs.AloneCore.{alone_core_enters}
+use Rattle.session_laws.proofs.CoreLaws.{answers_alone}
 use Rattle.op_steps.specs.declared.stages.Stage.{Stage}
 use Rattle.op_steps.specs.declared.beginning.BeginFault.TheVariants as begin
 use Rattle.op_steps.specs.Passing.{FailsByMemory}
@@ -161,3 +166,55 @@ module _ (first : Image) (past : Past) (connections : Connections) (image : Imag
       (promises_it e e.command e.operation reply.Fault named tt (all_going next)) (not_zero e e.command e.operation reply.Fault named tt) connected_then
       (follows_faulted e name key token is answer past (with_connections (meaning image) connections) (with_connections (meaning (after_all image hs)) connected_then)
       (faulted_same image (after_all image hs) connections e name key token is (tried_means live op (numbered op e.operation) image core.run.sound (begun core.run.sound own.lawful below).0 hs (begun core.run.sound own.lawful below).1)))
+
+-- ---- before its log row
+
+some_numbered : (p : Piece) (ops : List Op) → AreNumbered ops → SomeOf (λ (op : Op). TakesOffline 0 p op) ops → ⊥
+some_numbered p [] n h = absurd h
+some_numbered p (op ∷ ops) n (inl t) = n.0 t.numbered
+some_numbered p (op ∷ ops) n (inr m) = some_numbered p ops n.1 m
+
+either_bool : (b : Bool) (X : Type 0) → (X → ⊥) → MatchBool b ⊥ X → ⊥
+either_bool true X f h = absurd h
+either_bool false X f h = f h
+
+-- no log row of number 0 was tried
+never_tried : (start : Image) (session : ℕ) (p : Piece) (past : Timeline) → TriesNumbered past → WasTried start session (λ (image : Image) (op : Op). TakesOffline 0 p op) past → ⊥
+never_tried start session p [] n t = t
+never_tried start session p (Happened (Committed place change took) ∷ past) n t = ⊎_elim (λ this. some_numbered p (logs_put change) n.0 this) (λ before. never_tried start session p past n.1 before) t
+never_tried start session p (Happened (Wrote bytes) ∷ past) n t = never_tried start session p past n t
+never_tried start session p (Happened (Reopened place cells) ∷ past) n t = never_tried start session p past n t
+never_tried start session p (Entered x ∷ past) n t = either_bool (x.session == session) (WasTried start session (λ (image : Image) (op : Op). TakesOffline 0 p op) past) (never_tried start session p past n) t
+
+module _ (e : Entry) (name key : Text) (token : Option Token) (is : e.command ≡ command.Offline name key token) (unnamed : e.operation ≡ 0) (answer : e.reply ≡ Some reply.Fault) where
+  follows_before : (past : Past) (A : PlainState) → Follows past A e A e.reply
+  follows_before past A = subst (Follows past A e A) (sym answer) (subst (λ c. FollowsFault A A e c (asked_job A e.command)) (sym is) (inr (inl refl)))
+
+  ends_before : (start : Image) (past : Timeline) → TriesNumbered past → (A B : PlainState) (m : Option Piece) → EndsIfTried start past e A B m
+  ends_before start past n A B None = tt
+  ends_before start past n A B (Some p) = λ t. absurd (never_tried start e.session p past n (subst (λ k. WasTried start e.session (λ (image : Image) (op : Op). TakesOffline k p op) past) unnamed t))
+
+pub offline_faults_before : (since : ℕ) (start : Image) (mode : Mode) (past : Timeline) (connections : Connections) (doing : AllDoing) → Core Needs since start mode past connections [] doing → (e : Entry) (name key : Text) (token : Option Token) → (left : Option Op) → doing e.session ≡ Working e.command left
+    → e.command ≡ command.Offline name key token → e.operation ≡ 0 → e.reply ≡ Some reply.Fault → e.moment ≡ since + length (happened_of past) → (next : AllDoing) → IsThen doing e.session (Resting left) next → Core Needs since start mode (Entered e ∷ past) connections (text_of mode e) next
+offline_faults_before since start mode past connections doing core e name key token left works is unnamed answer moment next then =
+    let named : Names e e.command 0 reply.Fault = record { command = refl; operation = unnamed; reply = answer } in
+    answers_alone Needs since start mode past connections [] doing core e (record { command = e.command; operation = 0 }) (ap going_of works) (of_it e e.command 0 reply.Fault named tt) (Resting left) next then (leaves_resting e reply.Fault answer left)
+    (promises_it e e.command 0 reply.Fault named tt (all_going next)) (not_zero e e.command 0 reply.Fault named tt) connections reply.Fault refl answer
+    (record {
+      moment = moment;
+      follows = subst (λ s. Follows (past_of start past) s e (with_connections (meaning (image_of start past)) connections) e.reply) (ap (λ s. with_connections s connections) core.owing.run.exact)
+          (follows_before e name key token is unnamed answer (past_of start past) (with_connections (meaning (image_of start past)) connections));
+      on_trail = subst (OnTrail start past (with_connections (facts_of start past) connections) e (with_connections (meaning (image_of start past)) connections)) (sym answer)
+          (subst (λ c. FaultOnTrail start past e (with_connections (facts_of start past) connections) (with_connections (meaning (image_of start past)) connections) c (asked_job (with_connections (facts_of start past) connections) e.command)) (sym is)
+          (ends_before e name key token is unnamed answer start past core.sessions.tries (with_connections (facts_of start past) connections) (with_connections (meaning (image_of start past)) connections)
+          (mapping_of (with_connections (facts_of start past) connections) name key)));
+      planned = subst (IsPlanned start past (with_connections (facts_of start past) connections) e (with_connections (meaning (image_of start past)) connections)) (sym (ap (asked_job (facts_of start past)) is)) tt;
+    })
+
+pub offline_faults_before_alone : (first : Image) (past : Past) (connections : Connections) (image : Image) (doing : AllDoing) → CoreAlone Needs first past connections image doing → (e : Entry) (name key : Text) (token : Option Token) → (left : Option Op) → doing e.session ≡ Working e.command left
+    → e.command ≡ command.Offline name key token → e.operation ≡ 0 → e.reply ≡ Some reply.Fault → (next : AllDoing) → IsThen doing e.session (Resting left) next → CoreAlone Needs first (record { entry = e; before = meaning image } ∷ past) connections image next
+offline_faults_before_alone first past connections image doing core e name key token left works is unnamed answer next then =
+    let named : Names e e.command 0 reply.Fault = record { command = refl; operation = unnamed; reply = answer } in
+    alone_core_enters Needs first past connections image doing core e (record { command = e.command; operation = 0 }) (ap going_of works) (of_it e e.command 0 reply.Fault named tt) (Resting left) next then (leaves_resting e reply.Fault answer left)
+    (promises_it e e.command 0 reply.Fault named tt (all_going next)) (not_zero e e.command 0 reply.Fault named tt) image connections core.run.sound (λ t l other at. core.stand t l at)
+    (follows_before e name key token is unnamed answer past (with_connections (meaning image) connections))

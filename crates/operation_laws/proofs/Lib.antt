@@ -11,6 +11,7 @@ pub mod Exchanges
 pub mod FaultedOffline
 pub mod FirstImage
 pub mod Full
+pub mod GivenNumbers
 pub mod Left
 pub mod Lifts
 pub mod MappingAtCommit

@@ -16,3 +16,7 @@ pub record AreTheLive (numbers : List ℕ) (doing : AllDoing) : Type 0 where
   pub listed : (session : ℕ) (l : Live) → live_of (doing session) ≡ Some l → is_live numbers l.op.number ≡ true
   -- and what is listed some session has live
   pub had : (number : ℕ) → is_live numbers number ≡ true → HasLive doing number
+
+-- each live operation has a number from 1 on
+abbrev pub AreGiven : AllDoing → Type 0
+AreGiven doing = (session : ℕ) (l : Live) → live_of (doing session) ≡ Some l → l.op.number ≡ 0 → ⊥

@@ -182,3 +182,13 @@ pub fn offline_fault_names_its_log_row()
         (hs : List Happening) → Begins live op (Err (begin.Tried e.operation)) image hs → e.reply ≡ Some reply.Fault → (next : AllDoing) → IsThen doing e.session (Resting left) next →
         CoreAlone Needs first (record { entry = e; before = meaning image } ∷ past) (ended_under (mapping_of (with_connections (meaning image) connections) name key) connections) (after_all image hs) next }
 {}
+
+/// And where nothing of its operation was tried: then no connection has ended.
+pub fn offline_fault_before_it()
+    ensures on_trail { (since : ℕ) (start : Image) (mode : Mode) (past : Timeline) (connections : Connections) (doing : AllDoing) → Core Needs since start mode past connections [] doing → (e : Entry) (name key : Text) (token : Option Token) →
+        (left : Option Op) → doing e.session ≡ Working e.command left → e.command ≡ command.Offline name key token → e.operation ≡ 0 → e.reply ≡ Some reply.Fault → e.moment ≡ since + length (happened_of past) →
+        (next : AllDoing) → IsThen doing e.session (Resting left) next → Core Needs since start mode (Entered e ∷ past) connections (text_of mode e) next }
+    ensures alone { (first : Image) (past : Past) (connections : Connections) (image : Image) (doing : AllDoing) → CoreAlone Needs first past connections image doing → (e : Entry) (name key : Text) (token : Option Token) →
+        (left : Option Op) → doing e.session ≡ Working e.command left → e.command ≡ command.Offline name key token → e.operation ≡ 0 → e.reply ≡ Some reply.Fault →
+        (next : AllDoing) → IsThen doing e.session (Resting left) next → CoreAlone Needs first (record { entry = e; before = meaning image } ∷ past) connections image next }
+{}

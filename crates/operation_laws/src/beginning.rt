@@ -8,6 +8,7 @@ ghost use Rattle.cell_world.specs.Operations.{conflicts};
 ghost use Rattle.cell_world.specs.Sound.{HasLog};
 ghost use Rattle.cell_world.specs.declared.operations.Op.{Op};
 ghost use Rattle.cell_world.specs.declared.operations.Reach.{Reach};
+ghost use Rattle.cell_world.specs.declared.operations.StageName.{StageName};
 ghost use Rattle.cell_world.specs.declared.operations.StageName.TheVariants.{Logged};
 ghost use Rattle.plain_model.specs.declared.commands.Command.{Command};
 ghost use Rattle.plain_model.specs.declared.replies.Reply.{Reply};
@@ -30,7 +31,7 @@ ghost use Rattle.op_steps.specs.Beginning.{Begins};
 ghost use Rattle.op_steps.specs.Clearing as way;
 ghost use Rattle.op_steps.specs.Clearing.{Clears};
 ghost use Rattle.operation_laws.specs.Courses.{happened_on};
-ghost use Rattle.operation_laws.specs.LiveNumbers.{AreTheLive};
+ghost use Rattle.operation_laws.specs.LiveNumbers.{AreTheLive, AreGiven};
 ghost use Rattle.operation_laws.specs.Planned.{IsOpFor};
 
 /// The operation of a command that is going has begun: the session has it live, at its first stage.
@@ -79,4 +80,11 @@ pub fn way_is_cleared()
     ensures alone { (first : Image) (past : Past) (connections : Connections) (image : Image) (doing : AllDoing) → CoreAlone Needs first past connections image doing →
         (live : List ℕ) → AreTheLive live doing → (reach : Reach) (hs : List Happening) → Clears live reach (Ok None) image hs →
         CoreAlone Needs first past connections (after_all image hs) doing × ((op : Op) → HasLog (global (after_all image hs)).log op → conflicts reach op ≡ false) }
+{}
+
+/// Each live operation has a number from 1 on, as an operation that begins has: it stays so, whatever a session does next.
+pub fn numbers_are_given()
+    ensures first { (doing : AllDoing) → ((session : ℕ) → live_of (doing session) ≡ None) → AreGiven doing }
+    ensures operating { (doing : AllDoing) → AreGiven doing → (session : ℕ) (c : Command) (op : Op) (stage : StageName) → (op.number ≡ 0 → ⊥) → (next : AllDoing) → IsThen doing session (Operating c op stage) next → AreGiven next }
+    ensures idle { (doing : AllDoing) → AreGiven doing → (session : ℕ) (d : Doing) → live_of d ≡ None → (next : AllDoing) → IsThen doing session d next → AreGiven next }
 {}
