@@ -147,7 +147,8 @@ then_assoc Less b c = refl
 then_assoc Equal b c = refl
 then_assoc Greater b c = refl
 
-escaped_keeps : (a b x y : List ℕ) → byte_cmp (escaped a ++ x) (escaped b ++ y) ≡ ordering_then (byte_cmp a b) (byte_cmp x y)
+-- a key before other bytes
+pub escaped_keeps : (a b x y : List ℕ) → byte_cmp (escaped a ++ x) (escaped b ++ y) ≡ ordering_then (byte_cmp a b) (byte_cmp x y)
 escaped_keeps [] [] x y = refl
 escaped_keeps [] (zero ∷ bs) x y = refl
 escaped_keeps [] (suc b ∷ bs) x y = rw (less 0 (suc b) (omega arith)) refl
@@ -163,6 +164,10 @@ ended_keeps [] [] x y ha hb = refl
 ended_keeps [] (b ∷ bs) x y ha hb = rw (less 0 b hb.0) refl
 ended_keeps (a ∷ xs) [] x y ha hb = rw (more a 0 ha.0) refl
 ended_keeps (a ∷ xs) (b ∷ bs) x y ha hb = rw (ended_keeps xs bs x y ha.1 hb.1) (sym (then_assoc (nat_cmp a b) (byte_cmp xs bs) (byte_cmp x y)))
+
+-- a name before other bytes
+pub names_keep : (a b x y : List ℕ) → IsTrue (is_name a) → IsTrue (is_name b) → byte_cmp (ended a ++ x) (ended b ++ y) ≡ ordering_then (byte_cmp a b) (byte_cmp x y)
+names_keep a b x y f g = ended_keeps a b x y (name_no_zero a f) (name_no_zero b g)
 
 -- ---- numbers
 

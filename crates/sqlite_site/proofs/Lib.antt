@@ -1,2 +1,9 @@
+pub mod KeptLemmas
 pub mod OpLemmas
+pub mod OrderKeys
 pub mod RowLemmas
+pub mod SchemaIs
+pub mod StoreFinds
+pub mod StoreNext
+pub mod StoreRows
+pub mod StoreScans

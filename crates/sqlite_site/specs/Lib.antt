@@ -1,3 +1,5 @@
+pub mod Contents
 pub mod Entries
 pub mod Held
+pub mod Kept
 pub mod Refusals

@@ -1,4 +1,8 @@
 //! Where the tables are kept: in memory, or in files.
+ghost use Rattle.std.specs.Prelude.{◌≡◌, Bool, true, false, IfOk};
+ghost use Rattle.std.proofs.Common.{refl, sym, true≢false};
+ghost use Rattle.sqlite.proofs.Callers.{memory_is_clean};
+ghost use Rattle.sqlite_site.specs.Kept.{IsSteady, IsNew};
 
 use crate::refused::Refused;
 use sqlite::{Alter, Connection, File, FileStore, MemStore};
@@ -9,8 +13,12 @@ pub trait Keeping: Alter + Drop {
     /// What tells one store of the kind from the others.
     type Place: Drop;
 
+    /// Whether a store of the kind tells its cells: it always does its part, and is new where it is opened.
+    ghost tells: { Bool };
+
     /// Opens the store at a place, and makes its table where there is none.
-    fn open(alloc: Global, place: &Self::Place) -> Result<Connection<Self>, Refused>;
+    fn open(alloc: Global, place: &Self::Place) -> Result<Connection<Self>, Refused>
+        ensures { tells ≡ true → IfOk result (λ conn. IsNew Self.Store conn) };
 
     /// Lets the connection go and opens the store anew, where that may change what it shows. After an error there may
     /// be no connection.
@@ -18,7 +26,11 @@ pub trait Keeping: Alter + Drop {
         conn: &mut Option<Connection<Self>>,
         alloc: Global,
         place: &Self::Place,
-    ) -> Result<(), Refused>;
+    ) -> Result<(), Refused>
+        ensures { tells ≡ true → conn.new ≡ conn.old };
+
+    /// A store that tells its cells has always done its part, and is open.
+    ghost steady: { tells ≡ true → IsSteady Self.Store };
 }
 
 /// Where the file of a site is.
@@ -30,6 +42,10 @@ pub struct Path {
 
 impl Keeping for MemStore {
     type Place = ();
+
+    ghost tells = { true };
+
+    ghost steady = { λ _ h. (memory_is_clean h, refl) };
 
     fn open(alloc: Global, _place: &()) -> Result<Connection<MemStore>, Refused> {
         let Ok(mut conn) = Connection::open_in_memory(alloc) else {
@@ -59,6 +75,10 @@ fn make_missing<S: Alter>(conn: &mut Connection<S>) -> Result<(), Refused> {
 
 impl Keeping for FileStore<File> {
     type Place = Path;
+
+    ghost tells = { false };
+
+    ghost steady = { λ e _. absurd (true≢false (sym e)) };
 
     fn open(_alloc: Global, place: &Path) -> Result<Connection<FileStore<File>>, Refused> {
         let mut conn = Connection::open(&place.rt, place.path.as_str())?;

@@ -3,6 +3,8 @@
 
 mod keeping;
 mod keys;
+pub mod laws;
+mod opened;
 mod refused;
 mod rows;
 mod site;

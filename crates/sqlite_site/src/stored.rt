@@ -2,12 +2,14 @@
 ghost use Rattle.std.specs.Prelude.{◌≡◌, false, List, IfOk, OnOk, OnErr, IsTrue};
 ghost use Rattle.cell_world.specs.Spelled.{IsCell};
 ghost use Rattle.cell_world.specs.Orders.{kind_number};
-ghost use Rattle.cell_world.specs.Stores.{own_key};
+ghost use Rattle.cell_world.specs.Finding.{IsFloor, IsScan, IsNextKey};
+ghost use Rattle.cell_world.specs.Stores.{Store, own_key, cell_at, changed};
 ghost use Rattle.record_form.specs.Layout.{spelling};
 ghost use Rattle.record_form.specs.OrderBytes.{ordered};
 ghost use Rattle.sqlite.specs.Held.{state};
 ghost use Rattle.sqlite.specs.State.{HasCleanDisk};
 ghost use Rattle.cell_table.specs.Cells.{Entry, Holds};
+ghost use Rattle.sqlite_site.specs.Contents.{HoldsStore};
 ghost use Rattle.sqlite_site.specs.Entries.{IsReadOf, IsLastOf, IsFloorOf, ArePageOf, IsNextOf, AreEdited};
 ghost use Rattle.sqlite_site.specs.Held.{Rests, IsOpOf, AreOpsOf};
 
@@ -43,6 +45,7 @@ pub(crate) fn read<S: Alter>(
     key: &CellKey,
 ) -> Result<Option<Cell>, Refused>
     ensures found { HasCleanDisk (state S.Store conn.new) → IfOk result (λ found. (all : List Entry) → Holds (state S.Store conn.old).now all → IsReadOf all key.now found) }
+    ensures cells { HasCleanDisk (state S.Store conn.new) → IfOk result (λ found. (s : Store) → HoldsStore (state S.Store conn.old).now s → found ≡ cell_at s key.now) }
     ensures same { Rests (state S.Store conn.old) (state S.Store conn.new) }
     ensures mode { (state S.Store conn.old).in_transaction ≡ false → (state S.Store conn.new).in_transaction ≡ false }
 {
@@ -79,9 +82,11 @@ pub(crate) fn floor<S: Alter>(
     key: &CellKey,
 ) -> Result<Option<Cell>, Refused>
     ensures found { HasCleanDisk (state S.Store conn.new) → IfOk result (λ found. (all : List Entry) → Holds (state S.Store conn.old).now all → IsFloorOf all key.now found) }
+    ensures cells { HasCleanDisk (state S.Store conn.new) → IfOk result (λ found. (s : Store) → HoldsStore (state S.Store conn.old).now s → IsFloor s key.now found) }
     ensures same { Rests (state S.Store conn.old) (state S.Store conn.new) }
     ensures mode { (state S.Store conn.old).in_transaction ≡ false → (state S.Store conn.new).in_transaction ≡ false }
 {
+    key.known();
     let found = last(conn, alloc, key)?;
     Ok(within(key, found))
 }
@@ -110,9 +115,11 @@ pub(crate) fn scan<S: Alter>(
     limit: u32,
 ) -> Result<Vec<Cell>, Refused>
     ensures found { HasCleanDisk (state S.Store conn.new) → IfOk result (λ found. (all : List Entry) → Holds (state S.Store conn.old).now all → ArePageOf all (kind_number from.now) (ordered from.now) limit found.items) }
+    ensures cells { HasCleanDisk (state S.Store conn.new) → IfOk result (λ found. (s : Store) → HoldsStore (state S.Store conn.old).now s → IsScan s from.now limit found.items) }
     ensures same { Rests (state S.Store conn.old) (state S.Store conn.new) }
     ensures mode { (state S.Store conn.old).in_transaction ≡ false → (state S.Store conn.new).in_transaction ≡ false }
 {
+    from.known();
     let bytes = order_bytes(alloc, from)?;
     page(conn, alloc, kind_of(from), bytes.as_slice(), limit)
 }
@@ -126,9 +133,11 @@ pub(crate) fn next_key<S: Alter>(
     past: bool,
 ) -> Result<Option<NormKey>, Refused>
     ensures found { HasCleanDisk (state S.Store conn.new) → IfOk result (λ found. (all : List Entry) → Holds (state S.Store conn.old).now all → IsNextOf all map.now from.now past found) }
+    ensures cells { HasCleanDisk (state S.Store conn.new) → IfOk result (λ found. (s : Store) → HoldsStore (state S.Store conn.old).now s → IsNextKey s.rows map.now from.now past found) }
     ensures same { Rests (state S.Store conn.old) (state S.Store conn.new) }
     ensures mode { (state S.Store conn.old).in_transaction ≡ false → (state S.Store conn.new).in_transaction ≡ false }
 {
+    map.known();
     let bytes = rows_from(alloc, map, from, past)?;
     let found = page(conn, alloc, 10, bytes.as_slice(), 1)?;
     Ok(first_key(map, found.as_slice()))
@@ -175,9 +184,11 @@ pub(crate) fn commit<S: Alter>(
     change: &Change,
 ) -> Result<(), Refused>
     ensures made { HasCleanDisk (state S.Store conn.new) → OnOk result ((all : List Entry) → Holds (state S.Store conn.old).now all → (next : List Entry) × AreEdited change.now all next × Holds (state S.Store conn.new).now next) }
+    ensures changed { HasCleanDisk (state S.Store conn.new) → OnOk result ((s : Store) → HoldsStore (state S.Store conn.old).now s → HoldsStore (state S.Store conn.new).now (changed s change.now)) }
     ensures unmade { HasCleanDisk (state S.Store conn.new) → IsTrue (state S.Store conn.new).is_open → OnErr result ((state S.Store conn.new).now ≡ (state S.Store conn.old).now) }
     ensures mode { (state S.Store conn.old).in_transaction ≡ false → (state S.Store conn.new).in_transaction ≡ false }
 {
+    change.known();
     if !conn.is_autocommit() {
         return Err(Refused::Store);
     }

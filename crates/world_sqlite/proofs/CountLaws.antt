@@ -1,19 +1,16 @@
 -- The counts of the sites after a call at one of them.
-use Rattle.std.proofs.Common.{◌≡◌, ◌==◌, if◌then◌else◌, Bool, true, false, ℕ, ◌+◌, ◌-◌, ◌≤◌, ◌<◌, zero, suc, List, [], ◌∷◌, ◌++◌, length, get_or, set, slice_get, Option, Some, None, Result, Ok, Err, refl, sym, ap, subst, subst₂, ◌∙◌, arith}
-use Rattle.std.specs.Prelude.{IsSome, option_map, unwrap_or, IsErrOf}
+use Rattle.std.proofs.Common.{◌≡◌, ◌==◌, if◌then◌else◌, Bool, true, false, ℕ, ◌+◌, ◌-◌, ◌≤◌, ◌<◌, zero, suc, List, [], ◌∷◌, ◌++◌, length, get_or, set, slice_get, Some, Result, Ok, Err, refl, sym, ap, subst, subst₂, ◌∙◌, arith}
+use Rattle.std.specs.Prelude.{IsSome, option_map, IsErrOf}
 use Rattle.std.proofs.lemmas.Bool.{eqb-true}
 use Rattle.std.proofs.lemmas.List.Elements.{All-push}
 use Rattle.cell_world.specs.Texts.{Text}
 use Rattle.cell_world.specs.Counts.{last_count, one_more, Rose, NeverFall}
-use Rattle.cell_world.specs.Images.{Place, Global, Shard, Reopened}
-use Rattle.cell_world.specs.Outside.{Outside, SameButFaults, Reopens, place_at, happens}
-use Rattle.cell_world.specs.Stores.{empty_store}
-use Rattle.cell_world.proofs.KeyedLaws.{store_empty}
-use Rattle.cell_world.specs.declared.cells.Site.{Site}
+use Rattle.cell_world.specs.Images.{Global, Shard}
+use Rattle.cell_world.specs.Outside.{place_at}
 use Rattle.cell_world.specs.declared.outside.WorldError.{WorldError}
 use Rattle.cell_world.specs.declared.outside.WorldError.TheVariants.{Failed, Memory}
 use Rattle.sqlite_site.specs.Refusals.{counts_after}
-use Rattle.world_sqlite.specs.Counted.{count_of, tells, AreFresh}
+use Rattle.world_sqlite.specs.Counted.{count_of, AreFresh}
 
 -- ---- sites where no call has failed
 
@@ -47,7 +44,7 @@ never_falls (y ∷ ys) f zero d x h (suc m) = same _
 never_falls (y ∷ ys) f (suc n) d x h zero = same _
 never_falls (y ∷ ys) f (suc n) d x h (suc m) = never_falls ys f n d x h m
 
--- ---- what a reopening does
+-- ---- what a call does
 
 rises : {T : Type 0} (r : Result T WorldError) (n : ℕ) → n ≤ last_count → n ≤ counts_after r n
 rises (Ok x) n h = same n
@@ -63,21 +60,6 @@ pub fails_with_rise : {A T : Type 0} (xs : List A) (f : A → ℕ) (n : ℕ) (ol
 fails_with_rise xs f n old d x (Ok y) less got is fails = absurd cc
 fails_with_rise xs f n old d x (Err Failed) less got is fails = subst₂ (λ a b. one_more a ≤ b) (ap f got ∙ sym (count_at xs f n d less)) (sym (count_set xs f n x less ∙ is)) (same _)
 fails_with_rise xs f n old d x (Err Memory) less got is fails = absurd cc
-
-same_but : (locations : List Text) (old new : ℕ → ℕ) (sink reads : ℕ) → NeverFall old new → SameButFaults (tells locations old sink reads) (tells locations new sink reads)
-same_but locations old new sink reads never = record { same = refl; faults = never; sink = same sink }
-
--- a world that tells its counts alone was opened again at a site
-pub reopens_is : (locations : List Text) (old new : ℕ → ℕ) (sink reads : ℕ) (site : Site) (r : Result (Unit {0}) WorldError) → NeverFall old new → Reopens (tells locations old sink reads) (tells locations new sink reads) site r
-reopens_is locations old new sink reads site (Ok done) never = (empty_store, store_empty, at_place (place_at locations site.0))
-  where
-    outside : Outside
-    outside = tells locations old sink reads
-
-    at_place : (p : Option Place) → SameButFaults (unwrap_or (option_map (λ place. happens outside (Reopened place empty_store)) p) outside) (tells locations new sink reads)
-    at_place None = same_but locations old new sink reads never
-    at_place (Some place) = same_but locations old new sink reads never
-reopens_is locations old new sink reads site (Err e) never = same_but locations old new sink reads never
 
 -- ---- a site that the world has stands in the list
 

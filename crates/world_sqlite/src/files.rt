@@ -62,6 +62,7 @@ fn sites_in(
 
 impl<O: Drop> SqliteWorld<FileStore<File>, O> {
     ghost use Rattle.cell_world.specs.Outside.{IsNewWorld};
+    ghost use Rattle.cell_world.specs.Outside.{TellsNothing};
     ghost use Rattle.world_sqlite.specs.Counted.{count_of, tells};
 
     /// The stores in the files of a folder that is there: `global.db` for the global one, and `SERVER@DATABASE.db` for
@@ -77,7 +78,7 @@ impl<O: Drop> SqliteWorld<FileStore<File>, O> {
     ) -> Result<SqliteWorld<FileStore<File>, O>, WorldError>
         requires distinct { IsDistinct same locations.now }
         requires few { length locations.now ≤ MOST_LOCATIONS }
-        ensures { IfOk result (λ w. (w.locations.items ≡ locations.now) × (w.out ≡ out) × IsNewWorld (tells w.locations.items (count_of (λ s. s.faults) w.sites.items) w.sink_faults w.global_reads)) }
+        ensures { IfOk result (λ w. (w.locations.items ≡ locations.now) × (w.out ≡ out) × IsNewWorld (tells w.locations.items TellsNothing (count_of (λ s. s.faults) w.sites.items) w.sink_faults w.global_reads)) }
     {
         let sites = sites_in(rt, folder, locations)?;
         match Vec::from_slice(rt.alloc(), locations) {

@@ -1,11 +1,15 @@
 //! Stores in `sqlite`, and a writer of std as the output.
-ghost use Rattle.std.specs.Prelude.{◌≡◌, ◌≤◌, ◌<◌, ◌+◌, ◌==◌, length, IsTrue, IfSome, OnOk, if◌then◌else◌};
+ghost use Rattle.std.specs.Prelude.{◌≡◌, ◌≤◌, ◌<◌, ◌+◌, ◌==◌, true, length, IsTrue, IfSome, OnOk, if◌then◌else◌};
 ghost use Rattle.std.specs.List.{IsDistinct, AllByRecursion, position};
 ghost use Rattle.cell_world.specs.Counts.{one_more, last_count};
 ghost use Rattle.cell_world.specs.Keys.{same};
 ghost use Rattle.cell_world.specs.Texts.{is_location};
 ghost use Rattle.cell_world.specs.declared.limits.TheConstants.{MOST_LOCATIONS};
-ghost use Rattle.world_sqlite.specs.Counted.{AreFresh};
+ghost use Rattle.cell_world.specs.Images.{empty_image};
+ghost use Rattle.cell_world.specs.Outside.{TellsContents};
+ghost use Rattle.cell_world.specs.Stores.{empty_store};
+ghost use Rattle.sqlite_site.specs.Kept.{store_of};
+ghost use Rattle.world_sqlite.specs.Counted.{AreFresh, AreEmpty};
 ghost use Rattle.world_sqlite.specs.Facts.{spelled_fact, distinct_fact};
 
 use cell_world::cells::{Cell, CellKey, Site as SiteNumber};
@@ -75,6 +79,7 @@ fn put<O: Write>(out: &mut O, bytes: &[u8]) -> bool {
 pub(crate) fn add_site<S: Keeping>(sites: &mut Vec<Site<S>>, site: Site<S>) -> Result<(), Memory>
     ensures count { OnOk result (length sites.new.items ≡ length sites.old.items + 1) }
     ensures fresh { OnOk result (AreFresh sites.old.items (λ s. s.faults) → site.faults ≡ 0 → AreFresh sites.new.items (λ s. s.faults)) }
+    ensures empty { OnOk result (AreEmpty sites.old.items (λ s. store_of S.Store s.conn) → store_of S.Store site.conn ≡ empty_store → AreEmpty sites.new.items (λ s. store_of S.Store s.conn)) }
 {
     sites.push(site)?;
     Ok(())
@@ -82,7 +87,7 @@ pub(crate) fn add_site<S: Keeping>(sites: &mut Vec<Site<S>>, site: Site<S>) -> R
 
 impl<S: Keeping, O: Drop> SqliteWorld<S, O> {
     ghost use Rattle.cell_world.specs.Outside.{IsNewWorld};
-    ghost use Rattle.world_sqlite.specs.Counted.{count_of, tells};
+    ghost use Rattle.world_sqlite.specs.Counted.{count_of, stores_of, told_by, tells};
 
     /// A world of these sites, the global one first.
     pub(crate) fn over(locations: Vec<Location>, sites: Vec<Site<S>>, out: O) -> SqliteWorld<S, O>
@@ -90,7 +95,8 @@ impl<S: Keeping, O: Drop> SqliteWorld<S, O> {
         requires few { length locations.items ≤ MOST_LOCATIONS }
         requires each { length sites.items ≡ length locations.items + 1 }
         requires fresh { AreFresh sites.items (λ s. s.faults) }
-        ensures new { IsNewWorld (tells result.locations.items (count_of (λ s. s.faults) result.sites.items) result.sink_faults result.global_reads) }
+        ensures new { IsNewWorld (tells result.locations.items (told_by S.tells result.locations.items (stores_of (λ s. store_of S.Store s.conn) result.sites.items)) (count_of (λ s. s.faults) result.sites.items) result.sink_faults result.global_reads) }
+        ensures empty { S.tells ≡ true → AreEmpty sites.items (λ s. store_of S.Store s.conn) → told_by S.tells result.locations.items (stores_of (λ s. store_of S.Store s.conn) result.sites.items) ≡ TellsContents (empty_image locations.items) }
         ensures made { (result.locations.items ≡ locations.items) × (result.out ≡ out) }
     {
         known_locations(locations.as_slice());
@@ -113,12 +119,14 @@ impl<S: Keeping, O: Drop> SqliteWorld<S, O> {
 }
 
 impl<S: Keeping, O: Write + Drop> World for SqliteWorld<S, O> {
-    ghost use Rattle.world_sqlite.specs.Counted.{count_of, tells};
-    ghost use Rattle.world_sqlite.specs.Facts.{is_world, count_within};
+    ghost use Rattle.sqlite_site.specs.Kept.{store_of};
+    ghost use Rattle.sqlite_site.proofs.KeptLemmas.{kept_store};
+    ghost use Rattle.world_sqlite.specs.Counted.{count_of, stores_of, told_by, tells};
+    ghost use Rattle.world_sqlite.specs.Facts.{is_world, count_within, stores_within};
 
-    ghost outside = { λ w. tells w.locations.items (count_of (λ s. s.faults) w.sites.items) w.sink_faults w.global_reads };
+    ghost outside = { λ w. tells w.locations.items (told_by S.tells w.locations.items (stores_of (λ s. store_of S.Store s.conn) w.sites.items)) (count_of (λ s. s.faults) w.sites.items) w.sink_faults w.global_reads };
 
-    ghost laws = { λ w. is_world w.locations.items (count_of (λ s. s.faults) w.sites.items) w.sink_faults w.global_reads w.spelled w.distinct w.few (count_within (λ s. s.faults) (λ s. s.counted) w.sites.items) w.sunk w.counted };
+    ghost laws = { λ w. is_world S.tells w.locations.items (stores_of (λ s. store_of S.Store s.conn) w.sites.items) (count_of (λ s. s.faults) w.sites.items) w.sink_faults w.global_reads w.spelled w.distinct w.few (λ t. stores_within (λ s. store_of S.Store s.conn) (λ s. kept_store S.Store s.conn (s.kept t)) w.sites.items) (count_within (λ s. s.faults) (λ s. s.counted) w.sites.items) w.sunk w.counted };
 
     fn locate(&self, at: &Location) -> Option<SiteNumber> {
         match place_of(self.locations.as_slice(), at) {

@@ -1,0 +1,14 @@
+use Rattle.cell_world.specs.Finding.{IsScan}
+use Rattle.sqlite_site.specs.Kept.{store_of}
+use Rattle.world_sqlite.proofs.TellLaws.{looks, finds}
+use Rattle.world_sqlite.proofs.world.SqliteWorldWorld.scan.Goals as goal
+
+pub returns-clause-found : goal.returns-clause-found
+returns-clause-found g c =
+    let w = c.args.self.now in
+    finds g.S.Keeping.tells w.locations.items w.sites.items (λ s. store_of g.S.Store s.conn) (λ s. s.faults) w.sink_faults w.global_reads c.args.site c.index_mut.result.now _ c.scan.new.self w.distinct w.each c.requires c.index_mut.ensures.value c.scan.result (λ s found. IsScan s c.args.from.now c.args.limit found.items) c.scan.ensures.told
+
+pub returns-clause-same : goal.returns-clause-same
+returns-clause-same g c =
+    let w = c.args.self.now in
+    looks g.S.Keeping.tells w.locations.items w.sites.items (λ s. store_of g.S.Store s.conn) (λ s. s.faults) w.sink_faults w.global_reads c.args.site c.index_mut.result.now _ c.scan.new.self w.distinct w.each c.requires c.index_mut.ensures.value c.scan.result c.counted-self.result c.index_mut.result.now.counted c.scan.ensures.count c.scan.ensures.stays c.counted-self.ensures
