@@ -1,5 +1,11 @@
+pub mod BeginningLaws
 pub mod Copies
 pub mod Counting
+pub mod DoingLaws
 pub mod EventLaws
+pub mod MovingLaws
 pub mod OpeningLaws
+pub mod OperationCalls
+pub mod QuietEnds
 pub mod ShortAnswers
+pub mod Steadiness

@@ -2,21 +2,18 @@
 use Rattle.std.proofs.Common.{◌≡◌, inl, inr, ⊎_elim, ℕ, ◌+◌, ◌≤◌, false, refl, sym, ap, ◌∙◌, subst, Some, None, Option, List, [], ◌∷◌, length, arith}
 use Rattle.std.specs.FinMap as map
 use Rattle.cell_world.specs.Images.{Image, Happening, Trail, after_all, global, image_at, end_of_trail}
-use Rattle.cell_world.specs.Meaning.{meaning}
 use Rattle.cell_world.specs.Outside.{Outside, Told, TellsNothing, TellsContents, TellsTrail, IfContents, IsLater, StoreRoseBy}
 use Rattle.cell_world.specs.Sound.{Sound}
-use Rattle.std.proofs.lemmas.Cmp.{nat_cmp_total}
 use Rattle.std.proofs.Common.{nat_cmp}
 use Rattle.cell_world.specs.Counts.{Rose, NeverFall, StoreRose, store_count}
-use Rattle.cell_world.proofs.OutsideLaws.{later_then, store_rose_one}
+use Rattle.cell_world.proofs.OutsideLaws.{store_rose_one}
 use Rattle.plain_model.specs.Written.{Mode}
 use Rattle.op_steps.specs.Passing.{IsCourse, Passes, told_after_all}
 use Rattle.op_steps.specs.Undoing.{AnyUndoStep, Recovers}
 use Rattle.op_steps.proofs.Passes.{passes_weaker}
-use Rattle.session_laws.specs.Contract.{Seen, at_rest, CoreOn, CoreGoesOn, CoreTo, CoreGoesTo}
+use Rattle.session_laws.specs.Contract.{at_rest}
 use Rattle.session_laws.proofs.ContractLaws.{core_begins_on, core_begins_to}
 use Rattle.operation_laws.proofs.CoreCourses.{AreCalmFor, recovery_calm, course_goes}
-use Rattle.manager_core.specs.Answering.{NoLog}
 use Rattle.global_tables.specs.declared.faults.StepFault.{StepFault}
 use Rattle.global_tables.specs.declared.faults.StepFault.TheVariants as step
 use Rattle.manager_core.specs.declared.opening.StartFault.{StartFault}

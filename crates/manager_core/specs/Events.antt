@@ -1,5 +1,5 @@
 -- What an event does.
-use Rattle.std.specs.Prelude.{◌≡◌, ◌⊎◌, ℕ, Bool, true, List, [], ◌∷◌, ◌++◌, Option, Some, None, if◌then◌else◌}
+use Rattle.std.specs.Prelude.{◌≡◌, ◌⊎◌, ℕ, Bool, true, List, [], ◌∷◌, ◌++◌, Option, Some, None}
 use Rattle.cell_world.specs.Texts.{Text}
 use Rattle.cell_world.specs.Counts.{Rose}
 use Rattle.cell_world.specs.Images.{Wrote}
@@ -12,7 +12,6 @@ use Rattle.plain_model.specs.declared.commands.Command.{Command}
 use Rattle.plain_model.specs.declared.history.Entry.{Entry}
 use Rattle.plain_model.specs.declared.replies.Reply.{Reply}
 use Rattle.plain_model.specs.declared.replies.Reply.TheVariants as reply
-use Rattle.plain_model.specs.declared.replies.Sort.TheVariants as sort
 use Rattle.plain_model.specs.Lines.{reply_lines, tag_of}
 use Rattle.plain_model.specs.Refusing.{refusal}
 use Rattle.plain_model.specs.Summary.{sort_of}

@@ -2,5 +2,9 @@
 #![tactic(auto)]
 
 mod answers;
+pub mod beginning;
+pub mod doings;
 pub mod manager;
+pub mod moving;
 pub mod opening;
+pub mod settling;

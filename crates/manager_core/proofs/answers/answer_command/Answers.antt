@@ -1,4 +1,4 @@
-use Rattle.std.proofs.Common.{◌≡◌, ℕ, [], subst, sym}
+use Rattle.std.proofs.Common.{ℕ, subst, sym}
 use Rattle.std.specs.Prelude.{Ok, Err}
 use Rattle.cell_world.specs.Outside.{IfContents}
 use Rattle.cell_world.proofs.ContentsLaws.{contents_weaker}

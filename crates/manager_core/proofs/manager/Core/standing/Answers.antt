@@ -1,4 +1,4 @@
-use Rattle.std.proofs.Common.{◌≡◌, ◌∙◌, ap, length}
+use Rattle.std.proofs.Common.{◌∙◌, ap, length}
 use Rattle.plain_model.specs.Headline.{answered_by}
 use Rattle.manager_core.proofs.Counting.{answered_are}
 use Rattle.manager_core.proofs.manager.Core.standing.Goals as goal

@@ -1,0 +1,12 @@
+use Rattle.std.proofs.Common.{refl, sym, ap, ◌∙◌, subst}
+use Rattle.std.specs.Prelude.{Ok}
+use Rattle.op_steps.specs.Stages.{name_of, next_stage}
+use Rattle.operation_laws.specs.Forward.{IsForward}
+use Rattle.manager_core.proofs.MovingLaws.{done_moves, stopped_moves}
+use Rattle.manager_core.proofs.moving.move_from_target.Goals as goal
+
+pub returns-in-Ok-clause-moves : goal.returns-in-Ok-clause-moves
+returns-in-Ok-clause-moves g c = done_moves _ _ c.args.op.now (name_of c.args.stage) (Ok c.in-Ok.next) c.in-Ok.ensures.passes (subst IsForward (sym c.requires) tt) c.requires refl c.in-Ok.next (c.in-Ok.ensures.name ∙ ap next_stage c.requires)
+
+pub returns-in-Err-clause-moves : goal.returns-in-Err-clause-moves
+returns-in-Err-clause-moves g c = stopped_moves _ _ c.args.op.now (name_of c.args.stage) (subst IsForward (sym c.requires) tt) c.in-Err.fault c.in-Err.ensures.passes c.stopped_by.result c.stopped_by.ensures
