@@ -7,5 +7,6 @@ pub mod MovingLaws
 pub mod OpeningLaws
 pub mod OperationCalls
 pub mod QuietEnds
+pub mod SettleLaws
 pub mod ShortAnswers
 pub mod Steadiness

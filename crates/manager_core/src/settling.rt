@@ -1,13 +1,13 @@
 //! What was committed is settled.
-ghost use Rattle.std.specs.Prelude.{◌≡◌, ℕ, Some, IsErrOf, IsOk};
+ghost use Rattle.std.specs.Prelude.{◌≡◌, ◌≤◌, ℕ, Some, None, IsErrOf, IsOk, length};
 ghost use Rattle.cell_world.specs.Outside.{IfContents, IsLater, StoreRoseBy};
-ghost use Rattle.cell_world.specs.Texts.{Text};
+ghost use Rattle.cell_world.specs.declared.operations.Op.{Op};
 ghost use Rattle.session_laws.specs.Doing.{AllDoing, IsThen};
 ghost use Rattle.operation_laws.specs.Left.{left_of, without_left};
-ghost use Rattle.manager_core.specs.Doings.{IsLeftOver};
+ghost use Rattle.manager_core.specs.Doings.{IsLeftOver, all_doing};
 ghost use Rattle.manager_core.specs.Steady.{AreSteady, Becomes, IsClean};
 
-use crate::doings::LeftOver;
+use crate::doings::{Doings, LeftOver};
 use cell_world::outside::World;
 use global_tables::faults::StepFault;
 use op_steps::advancing::advance;
@@ -22,6 +22,8 @@ pub fn settle<W: World>(alloc: Global, world: &mut W, left: LeftOver) -> Result<
     ensures becomes { (before next : AllDoing) (session : ℕ) → left_of (before session) ≡ Some left.op → IsThen before session (without_left (before session)) next → Becomes (W.outside world.old) (W.outside world.new) before next }
     // no mark of it stands at any attached site
     ensures clean { IsOk result → (before : AllDoing) (session : ℕ) → left_of (before session) ≡ Some left.op → AreSteady before (W.outside world.old) → IfContents (W.outside world.new).told (IsClean left.op) }
+    // and where none of another operation stood none stands
+    ensures stays_clean { (before : AllDoing) (session : ℕ) → left_of (before session) ≡ Some left.op → AreSteady before (W.outside world.old) → (op : Op) → IfContents (W.outside world.old).told (IsClean op) → IfContents (W.outside world.new).told (IsClean op) }
     ensures later { IsLater (W.outside world.old) (W.outside world.new) }
     ensures cause { IsErrOf result StepFault.Store → StoreRoseBy 1 (W.outside world.old) (W.outside world.new) }
 {
@@ -29,4 +31,51 @@ pub fn settle<W: World>(alloc: Global, world: &mut W, left: LeftOver) -> Result<
         Ok(_) => Ok(()),
         Err(fault) => Err(fault),
     }
+}
+
+/// Settles what a session has left, if it has anything.
+fn settle_session<W: World>(
+    alloc: Global,
+    world: &mut W,
+    doings: &mut Doings,
+    session: u32,
+) -> Result<(), StepFault>
+    requires { (1 ≤ session) × (session ≤ length doings.old) }
+    ensures becomes { Becomes (W.outside world.old) (W.outside world.new) (all_doing doings.old) (all_doing doings.new) }
+    ensures next { IsThen (all_doing doings.old) session (without_left (all_doing doings.old session)) (all_doing doings.new) }
+    ensures clean { IsOk result → (op : Op) → left_of (all_doing doings.old session) ≡ Some op → AreSteady (all_doing doings.old) (W.outside world.old) → IfContents (W.outside world.new).told (IsClean op) }
+    ensures stays_clean { AreSteady (all_doing doings.old) (W.outside world.old) → (op : Op) → IfContents (W.outside world.old).told (IsClean op) → IfContents (W.outside world.new).told (IsClean op) }
+    ensures sessions { length doings.new ≡ length doings.old }
+    ensures later { IsLater (W.outside world.old) (W.outside world.new) }
+    ensures cause { IsErrOf result StepFault.Store → StoreRoseBy 1 (W.outside world.old) (W.outside world.new) }
+{
+    match doings.take_left(session) {
+        Some(left) => settle(alloc, world, left),
+        None => Ok(()),
+    }
+}
+
+/// Settles what the sessions from 1 to this one have left, one after the other. It stops at the first that fails, which has nothing left then either; those after it are as they were.
+pub fn settle_all<W: World>(
+    alloc: Global,
+    world: &mut W,
+    doings: &mut Doings,
+    sessions: u32,
+) -> Result<(), StepFault>
+    requires { sessions ≤ length doings.old }
+    // the core goes on
+    ensures becomes { Becomes (W.outside world.old) (W.outside world.new) (all_doing doings.old) (all_doing doings.new) }
+    // no session has anything left, and no mark of what one had stands at any attached site
+    ensures none { IsOk result → (session : ℕ) → 1 ≤ session → session ≤ sessions → left_of (all_doing doings.new session) ≡ None }
+    ensures clean { IsOk result → AreSteady (all_doing doings.old) (W.outside world.old) → (session : ℕ) (op : Op) → 1 ≤ session → session ≤ sessions → left_of (all_doing doings.old session) ≡ Some op → IfContents (W.outside world.new).told (IsClean op) }
+    ensures later { IsLater (W.outside world.old) (W.outside world.new) }
+    ensures cause { IsErrOf result StepFault.Store → StoreRoseBy 1 (W.outside world.old) (W.outside world.new) }
+{
+    for seat in 0..sessions {
+        match settle_session(alloc, world, doings, seat + 1) {
+            Ok(()) => {}
+            Err(fault) => return Err(fault),
+        }
+    }
+    Ok(())
 }
