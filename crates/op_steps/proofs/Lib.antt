@@ -9,6 +9,7 @@ pub mod MarkLaws
 pub mod MeaningLaws
 pub mod NumberLaws
 pub mod Passes
+pub mod PassedStages
 pub mod RecoverLaws
 pub mod Rises
 pub mod SettleLaws

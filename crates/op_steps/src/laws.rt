@@ -1,19 +1,23 @@
 //! What the transactions of operations leave of the stores, at each moment. Each law is the contract of a function that does nothing.
-ghost use Rattle.std.specs.Prelude.{◌≡◌, ◌≢◌, ◌⊎◌, ◌+◌, ◌∷◌, [], ℕ, Bool, List};
+ghost use Rattle.std.specs.Prelude.{◌≡◌, ◌≢◌, ◌⊎◌, ◌+◌, ◌∷◌, [], ℕ, Bool, true, List, Result, IsOk};
 ghost use Rattle.cell_world.specs.Images.{Image, Happening, Place, global};
 ghost use Rattle.cell_world.specs.Marked.{Marked, committed};
 ghost use Rattle.cell_world.specs.Meaning.{meaning, next_operation};
 ghost use Rattle.cell_world.specs.Sound.{Sound};
 ghost use Rattle.cell_world.specs.declared.operations.Op.{Op};
 ghost use Rattle.cell_world.specs.declared.operations.StageName.{StageName};
+ghost use Rattle.cell_world.specs.declared.operations.StageName.TheVariants.{SourceDone, TargetDone};
 ghost use Rattle.cell_world.specs.declared.operations.Reach.{Reach};
 ghost use Rattle.cell_world.specs.declared.changes.Edit.{Edit};
+ghost use Rattle.global_tables.specs.declared.faults.StepFault.{StepFault};
 ghost use Rattle.op_log.specs.JobSiteChanges.{JobSiteChange};
 ghost use Rattle.op_log.specs.ShortChanges.{ShortChange};
-ghost use Rattle.op_steps.specs.Advancing.{AdvanceStep, AtStage, StepFrom};
+ghost use Rattle.op_steps.specs.Advancing.{AdvanceStep, Advances, AtStage, CommitsOp, StepFrom, StepsAt};
 ghost use Rattle.op_steps.specs.Beginning.{BeginStep, ClearsAndTries, Logs};
-ghost use Rattle.op_steps.specs.Passing.{AtEach, IsCourse, changed_at};
+ghost use Rattle.op_steps.specs.Passing.{AtEach, FailsByMemory, IsCourse, changed_at};
+ghost use Rattle.op_steps.specs.PassingOver.{MakesOne, has_step};
 ghost use Rattle.op_steps.specs.Undoing.{AnyUndoStep, UndoStep};
+ghost use Rattle.op_steps.specs.declared.stages.Stage.{Stage};
 ghost use Rattle.plain_model.specs.OnTrail.{logs_put};
 
 /// While operations are undone, wherever that stops, each image is sound and stands for the same.
@@ -34,6 +38,14 @@ pub fn advancing_keeps_sound()
     ensures sound { (op : Op) (image : Image) → Sound image → (hs : List Happening) → IsCourse (AdvanceStep op) image hs → AtEach Sound image hs }
     ensures meaning { (op : Op) (image : Image) → Sound image → (place : Place) (change : List Edit) → AdvanceStep op image place change →
         (meaning (changed_at image place change) ≡ meaning image) ⊎ (meaning (changed_at image place change) ≡ record (meaning image) { mappings = (committed (global image) op).mappings; jobs = (committed (global image) op).jobs }) }
+{}
+
+/// Where new rows are to be put at another site, and at its commit, an operation that goes on makes just one transaction.
+pub fn steps_are_made()
+    ensures step { (op : Op) (image : Image) → Sound image → AtStage op SourceDone image → has_step op SourceDone ≡ true → (result : Result Stage StepFault) → IsOk result →
+        (hs : List Happening) → Advances op SourceDone (IsOk result) (FailsByMemory result) image hs → MakesOne (StepsAt op) image hs }
+    ensures commit { (op : Op) (image : Image) → Sound image → AtStage op TargetDone image → (result : Result Stage StepFault) → IsOk result →
+        (hs : List Happening) → Advances op TargetDone (IsOk result) (FailsByMemory result) image hs → MakesOne (CommitsOp op) image hs }
 {}
 
 /// What is carried at a stage is what the cells say of it: the operation is marked so.

@@ -8,6 +8,7 @@ mod commits;
 mod committing;
 pub mod laws;
 pub mod live;
+pub mod passing_over;
 mod settling;
 pub mod stages;
 mod stepping;
