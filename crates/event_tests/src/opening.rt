@@ -2,17 +2,13 @@
 ghost use Rattle.std.specs.Prelude.{IfOk, IsTrue};
 ghost use Rattle.cell_world.specs.Spelled.{is_spelled};
 
-use crate::events::ask;
-use cell_world::cells::{Cell, KeyType, MapKind, Site, Status};
-use cell_world::changes::Change;
-use cell_world::locations::Location;
-use cell_world::names::Name;
-use cell_world::norm_keys::NormKey;
+use crate::runs::Run;
+use crate::stores::store;
+use crate::words::{here, key, map};
+use cell_world::cells::{Cell, Status};
 use cell_world::operations::{Extra, Op, Piece, Pieces};
-use cell_world::outside::World;
 use cell_world::spans::{High, Span};
 use global_tables::lists::log_rows;
-use manager_core::manager::Core;
 use op_steps::advancing::advance;
 use op_steps::beginning::{Begun, begin};
 use op_steps::live::LiveList;
@@ -21,32 +17,6 @@ use plain_model::commands::Command;
 use std::alloc::Global;
 use std::test::Fail;
 use world_memory::world::MemoryWorld;
-
-fn map() -> Result<Name, Fail> {
-    Ok(Name::read(b"m").ok_or("a name")?)
-}
-
-/// The one location that the world knows.
-fn here() -> Result<Location, Fail> {
-    Ok(Location::read(b"s/a").ok_or("a location")?)
-}
-
-/// The key of an int map that is this number.
-fn key(number: u32) -> Result<NormKey, Fail> {
-    let bytes = number.wrapping_add(1 << 31).to_be_bytes();
-    Ok(NormKey::of_bytes(&bytes).ok_or("a key")?)
-}
-
-/// A world with a range map and its shard.
-fn store(alloc: Global) -> Result<MemoryWorld, Fail> {
-    let at = here()?;
-    let mut world = MemoryWorld::new(alloc, &[at])?;
-    let mut change = Change::empty(alloc);
-    change.put(Cell::Map(map()?, MapKind::Range, KeyType::Int))?;
-    change.put(Cell::Shard(map()?, at))?;
-    world.commit(alloc, Site::GLOBAL, &change)?;
-    Ok(world)
-}
 
 /// The operation that adds the range from 0 to 10.
 fn add() -> Result<Op, Fail>
@@ -108,19 +78,26 @@ fn left_after(alloc: Global, stages: u32) -> Result<MemoryWorld, Fail> {
     }
 }
 
+/// How many operations are logged.
+pub(crate) fn logged(alloc: Global, world: &mut MemoryWorld) -> Result<usize, Fail> {
+    Ok(log_rows(alloc, world)?.len())
+}
+
+/// What `list m` writes in a new run over the world, and how many operations are logged after it.
+pub(crate) fn listed(alloc: Global, world: MemoryWorld) -> Result<(Vec<u8>, usize), Fail> {
+    let mut run = Run::start(alloc, world, 1, false)?;
+    let _ended = run.ask(alloc, 1, Command::List(map()?))?;
+    let written = run.output(alloc)?;
+    let mut over = run.end(alloc)?;
+    Ok((written, logged(alloc, &mut over.world)?))
+}
+
 /// How many operations are logged before the opening and after it, and what `list m` then writes.
 fn opened_after(alloc: Global, stages: u32) -> Result<(usize, usize, Vec<u8>), Fail> {
     let mut world = left_after(alloc, stages)?;
-    let before = log_rows(alloc, &mut world)?.len();
-    match Core::start(alloc, world, 1) {
-        Ok(mut core) => {
-            let command = Command::List(map()?);
-            let _ended = ask(alloc, &mut core, 1, command, false);
-            let after = log_rows(alloc, &mut core.world)?.len();
-            Ok((before, after, core.world.output(alloc)?))
-        }
-        Err((_, _)) => Err(Fail::from("no core")),
-    }
+    let before = logged(alloc, &mut world)?;
+    let (written, after) = listed(alloc, world)?;
+    Ok((before, after, written))
 }
 
 #[test]

@@ -45,6 +45,7 @@ then_then before session d e mid next first second = record { here = second.here
 pub ends_after : (session : ℕ) (c : Command) (r : Reply) (number : ℕ) (known fresh : Known) (a b d : Outside) (one two three : AllDoing) → Becomes a b one two → Ends session c r number known fresh b d two three → Ends session c r number known fresh a d one three
 ends_after session c r number known fresh a b d one two three first second = record {
   steady = λ s k. second.steady (first.steady s) (first.copy known s k);
+  settled = λ s k op is. second.settled (first.steady s) (first.copy known s k) op (first.settled s op is);
   copy = λ ok s k. second.copy ok (first.steady s) (first.copy known s k);
   leads = λ s k mode history e says now. leads_then mode a.told b.told d.told (seen_with history one) (seen_with history two) (with_entry (seen_with history one) e three) (text_of mode e)
       (first.leads s mode history) (second.leads (first.steady s) (first.copy known s k) mode history e says now);

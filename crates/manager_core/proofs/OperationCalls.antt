@@ -18,28 +18,33 @@ use Rattle.plain_model.specs.declared.replies.Reply.{Reply}
 use Rattle.plain_model.specs.declared.replies.Reply.TheVariants as reply
 use Rattle.plain_model.specs.Running.{text_of}
 use Rattle.plain_model.specs.Written.{Mode}
-use Rattle.op_steps.specs.Advancing.{Advances, AtStage}
+use Rattle.op_steps.specs.Advancing.{Advances, AtStage, SettlesAt}
 use Rattle.op_steps.specs.Passing.{Passes, FailsByMemory}
 use Rattle.op_steps.specs.Stages.{next_stage}
 use Rattle.op_steps.specs.declared.stages.Stage.{Stage}
 use Rattle.op_steps.proofs.AdvanceMeaning.{course_from}
 use Rattle.op_steps.proofs.Passes.{passes_weaker}
 use Rattle.session_laws.specs.Core.{CoreAlone, Stands}
-use Rattle.session_laws.specs.Doing.{Doing, Resting, Operating, AllDoing, Live, live_of, IsThen, doing_then}
+use Rattle.session_laws.specs.Doing.{Doing, Resting, Operating, AllDoing, Live, live_of, IsThen}
 use Rattle.session_laws.specs.Needs.{Needs}
-use Rattle.session_laws.proofs.SessionLaws.{this_or_other, then_is}
+use Rattle.session_laws.proofs.SessionLaws.{this_or_other}
 use Rattle.operation_laws.specs.Entries.{EndsNone, IsOneOperation, Names, FollowsAtCommit, IsAdding}
 use Rattle.operation_laws.specs.Forward.{IsForward, IsBeforeTarget}
 use Rattle.operation_laws.specs.Leading.{Leads, with_entry}
 use Rattle.operation_laws.specs.Left.{AreLeft, left_of, without_left}
 use Rattle.operation_laws.proofs.AddAtCommit.{adding_at_commit}
 use Rattle.operation_laws.proofs.Done.{done_alone, faults_alone, memory_alone}
-use Rattle.operation_laws.proofs.Left.{left_advance}
-use Rattle.operation_laws.proofs.OwnSteps.{advances_on_trail, advances_alone, stage_alone}
+use Rattle.operation_laws.proofs.Left.{left_advance, settled_clean}
+use Rattle.operation_laws.proofs.OwnSteps.{advances_on_trail, advances_alone, stage_alone, step_leaves}
 use Rattle.operation_laws.proofs.Settled.{settled_on_trail, settled_alone}
 use Rattle.operation_laws.proofs.ToldLaws.{done_leads, fault_leads, memory_leads}
-use Rattle.manager_core.specs.Steady.{IsPlainOp, IsSteady, AreSteady, Becomes, Ends, IsClean, Says, seen_with}
-use Rattle.manager_core.proofs.Steadiness.{becomes_by, copy_advanced, copy_settled, core_here, steady_of, passes_on}
+use Rattle.manager_core.specs.Coming.{IsTidied, SettleStep}
+use Rattle.manager_core.specs.Cores.{Waits}
+use Rattle.manager_core.specs.Steady.{IsPlainOp, IsSteady, AreSteady, Becomes, Ends, IsSettledOp, Says, seen_with}
+use Rattle.manager_core.proofs.SettledStays.{StaysSettled, means_settled, settled_advanced, settled_settled}
+use Rattle.manager_core.proofs.Steadiness.{becomes_by, copy_advanced, copy_settled, core_here, keeps_settled, steady_of, passes_on}
+use Rattle.manager_core.proofs.TidyLaws.{settle_leaves_each, settle_step, tidied_by, tidied_weaker}
+use Rattle.manager_core.proofs.Waiting.{waits_by}
 
 -- ---- one session does another thing
 
@@ -82,11 +87,22 @@ module _ (old new : Outside) (op : Op) (result : Result Stage StepFault) (passes
         plain_next before session (without_left (before session)) next then s.plain (λ l h. s.plain session l (live_without (before session) l h)),
         (settled_alone image [] nobody image before (core_here before image s) s.left session op is result passes.happened p next then).1,
       ))
+      (λ image s p. let c = (p s.sound (s.left session op is)).course in (means_settled op image passes.happened c, settled_settled op image s.sound passes.happened c))
       (λ known image s p copy. copy_settled known image copy passes.happened op (p s.sound (s.left session op is)).course)
 
-  pub settle_cleans : IsOk result → AreSteady before old → IfContents new.told (IsClean op)
-  settle_cleans ok = passes_on (Advances op Committed (IsOk result) (FailsByMemory result)) old new passes (IsSteady before) (IsClean op)
-      (λ image s p. (settled_alone image [] nobody image before (core_here before image s) s.left session op is result passes.happened p (doing_then before session (without_left (before session))) (then_is before session (without_left (before session)))).2 ok)
+  -- whatever lines are still to be written
+  pub settle_waits : (next : AllDoing) → IsThen before session (without_left (before session)) next → Waits old new before next
+  settle_waits next then = waits_by (Advances op Committed (IsOk result) (FailsByMemory result)) old new passes before next
+      (λ rest t0 start mode past s p core. (settled_on_trail t0 start mode past nobody rest before core s.left session op is result passes.happened p next then).0)
+
+  -- nothing else was tried
+  pub settle_tidies : AreSteady before old → IsTidied (SettleStep (before session)) old.told new.told
+  settle_tidies steady = tidied_weaker (SettlesAt op) (SettleStep (before session)) (settle_step op (before session) is) old.told new.told
+      (tidied_by (SettlesAt op) (settle_leaves_each op) (Advances op Committed (IsOk result) (FailsByMemory result)) before old new passes (λ image s p. (p s.sound (s.left session op is)).course) steady)
+
+  pub settle_settles : IsOk result → AreSteady before old → IfContents new.told (IsSettledOp op)
+  settle_settles ok = passes_on (Advances op Committed (IsOk result) (FailsByMemory result)) old new passes (IsSteady before) (IsSettledOp op)
+      (λ image s p. let at = (p s.sound (s.left session op is)).reached ok in record { out = at.0.out; clean = settled_clean op (after_all image passes.happened) at })
 
 -- ---- an operation goes on
 
@@ -104,6 +120,9 @@ module _ (old new : Outside) (before : AllDoing) (session : ℕ) (l : Live) (is 
   left_here : IsForward l.stage → (image : Image) → IsSteady before image → P image passes.happened → AreLeft before (after_all image passes.happened)
   left_here forward image s p = left_advance before image s.sound s.left l.op passes.happened (course_from l.op l.stage image passes.happened (p s.sound (stage_here forward image s)).course)
 
+  settled_here : IsForward l.stage → (image : Image) → IsSteady before image → P image passes.happened → StaysSettled image (after_all image passes.happened)
+  settled_here forward image s p = settled_advanced l.op image s.sound passes.happened (course_from l.op l.stage image passes.happened (p s.sound (stage_here forward image s)).course)
+
   pub advance_becomes : IsForward l.stage → IsBeforeTarget l.stage → IsOk result → (next : AllDoing) → IsThen before session (Operating l.command l.op (next_stage l.stage)) next → Becomes old new before next
   advance_becomes forward early ok next then = becomes_by P old new passes before next
       (λ t0 start mode past s p core. advances_on_trail t0 start mode past nobody [] before core session l is early result ok passes.happened p next then)
@@ -112,6 +131,7 @@ module _ (old new : Outside) (before : AllDoing) (session : ℕ) (l : Live) (is 
         plain_next before session (Operating l.command l.op (next_stage l.stage)) next then s.plain (λ m h. subst (λ (x : Live). IsPlainOp x.op) (some_is (record { command = l.command; op = l.op; stage = next_stage l.stage }) m h) (s.plain session l is)),
         left_next before session (Operating l.command l.op (next_stage l.stage)) next then (after_all image passes.happened) (left_here forward image s p) (λ op h. absurd (none_some op h)),
       ))
+      (λ image s p. (step_leaves image s.sound l.op l.stage early (stage_here forward image s) result passes.happened p, settled_here forward image s p))
       (λ known image s p copy. copy_here forward known image s p copy)
 
   -- ---- it ends
@@ -163,6 +183,7 @@ module _ (old new : Outside) (before : AllDoing) (session : ℕ) (l : Live) (is 
           (λ image s p. steady_of next image (record { entry = some_entry r; before = meaning image } ∷ []) nobody (after_all image passes.happened) (alone image s p)
           (plain_next before session (Resting left) next then s.plain (λ m h. absurd (none_some m h)))
           (left_next before session (Resting left) next then (after_all image passes.happened) (left_here forward image s p) (own image s p))) steady;
+      settled = λ steady copy. keeps_settled P old new passes before (settled_here forward) steady;
       copy = λ ok steady copy. passes_on P old new passes (λ image. IsSteady before image × (known ≡ known_of (global image))) (λ image. known ≡ known_of (global image))
           (λ image s p. copy_here forward known image s.0 p s.1) (contents_both old.told (IsSteady before) (λ image. known ≡ known_of (global image)) steady copy);
       leads = λ steady copy mode history e says now. leads mode history e says says.of_session now;

@@ -35,7 +35,7 @@ use Rattle.operation_laws.specs.Entries.{EndsNone, IsOneOperation}
 use Rattle.operation_laws.proofs.Entries.{follows_fault, follows_memory}
 use Rattle.operation_laws.specs.Leading.{Leads, with_entry}
 use Rattle.manager_core.specs.Answering.{IsCopy}
-use Rattle.manager_core.specs.Steady.{IsSteady, AreSteady, Ends, Says, seen_with}
+use Rattle.manager_core.specs.Steady.{IsSteady, AreSteady, IsSettledOp, Ends, Says, seen_with}
 
 -- On this image the entry follows with nothing changed.
 pub record FitsAt (session : ℕ) (c : Command) (r : Reply) (image : Image) : Type 0 where
@@ -117,6 +117,7 @@ module _ (session : ℕ) (c : Command) (no_job : asked_number c ≡ None) (r : R
   pub quiet_ends : (known : Known) → Ends session c r 0 known known a b before before
   quiet_ends known = record {
     steady = λ steady copy. subst (λ t. IfContents t (IsSteady before)) (sym same) steady;
+    settled = λ steady copy op is. subst (λ t. IfContents t (IsSettledOp op)) (sym same) is;
     copy = λ ok steady copy. subst (IsCopy known) (sym same) copy;
     leads = λ steady copy mode history e says now. leads_quiet e says steady mode history now;
   }

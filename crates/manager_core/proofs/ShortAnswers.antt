@@ -1,144 +1,111 @@
--- What a command is answered follows from its plan.
-use Rattle.std.proofs.Common.{◌≡◌, ◌⊎◌, inl, inr, ⊎_elim, ℕ, Bool, true, false, refl, sym, ap, ◌∙◌, subst, List, [], Option, Some, None}
-use Rattle.cell_world.specs.Images.{Image, after_one}
-use Rattle.cell_world.specs.Outside.{Told, IfContents, told_after}
+-- The change of a short command is made, or it may be, and its entry follows.
+use Rattle.std.proofs.Common.{◌≡◌, inl, inr, ℕ, Bool, true, false, refl, List, [], None}
+use Rattle.cell_world.specs.Counts.{Rose}
+use Rattle.cell_world.specs.Images.{Image, after_one, global}
+use Rattle.cell_world.specs.Plain.{nobody}
+use Rattle.cell_world.specs.Meaning.{next_operation}
+use Rattle.cell_world.specs.Outside.{Outside, Told, TellsCells, IfContents, IsLater, told_after}
+use Rattle.cell_world.specs.Stores.{Store, IsKeyed, changed}
 use Rattle.cell_world.specs.declared.changes.Edit.{Edit}
-use Rattle.cell_world.proofs.ContentsLaws.{contents_all, contents_weaker}
-use Rattle.global_tables.specs.Known.{Known}
+use Rattle.cell_world.proofs.ContentsLaws.{contents_all, contents_both, contents_weaker}
+use Rattle.global_tables.specs.Known.{Known, known_of}
+use Rattle.map_ops.specs.Planning.{is_planned}
+use Rattle.map_ops.proofs.PlannedLaws.{planned_is_short, short_is_asked}
+use Rattle.op_steps.proofs.Rises.{rose_global}
 use Rattle.plain_model.specs.declared.commands.Command.{Command}
-use Rattle.plain_model.specs.declared.replies.Reply.{Reply}
 use Rattle.plain_model.specs.declared.replies.Reply.TheVariants as reply
-use Rattle.plain_model.specs.declared.replies.Refusal.{Refusal}
 use Rattle.plain_model.specs.OnTrail.{logs_put}
-use Rattle.plain_model.specs.Refusing.{refusal}
-use Rattle.plain_model.specs.ShortCommands.{is_short, is_short_answer, is_short_refusal, short_commit, standing_with, IsShortChange, IsShortAnswer, IsRefusedWith}
-use Rattle.plain_model.proofs.ShortCommands.{short_done, short_refused, short_unmade, short_made, short_memory}
-use Rattle.cell_world.specs.declared.operations.Reach.{Reach}
-use Rattle.map_ops.specs.Planning.{NoneInWay}
-use Rattle.manager_core.specs.Answering.{NoLog, Relies, RefusesExactly, AnswersAt, CommitsAt, AnswersShort}
+use Rattle.plain_model.specs.ShortCommands.{short_commit, standing_with}
+use Rattle.plain_model.proofs.ShortCommands.{short_done, short_unmade, short_made}
+use Rattle.session_laws.specs.Doing.{AllDoing, Resting}
+use Rattle.operation_laws.proofs.Left.{left_short}
+use Rattle.operation_laws.proofs.ShortStands.{all_stand_short}
+use Rattle.manager_core.specs.Answering.{IsCopy}
+use Rattle.manager_core.specs.Asking.{MakesChange, MayMake}
+use Rattle.manager_core.specs.Coming.{TriesShort}
+use Rattle.manager_core.specs.Steady.{IsSteady, AreSteady}
+use Rattle.manager_core.proofs.Copies.{copy_made}
+use Rattle.manager_core.proofs.QuietAnswers.{memory_quietly}
+use Rattle.manager_core.proofs.SettledStays.{settled_short}
+use Rattle.manager_core.proofs.ShortEnds.{CommitsAt, commit_ends}
 
--- where no operation is logged none is in the way
-pub none_in_way : (image : Image) (reached : Reach) → NoLog image → NoneInWay image reached
-none_in_way image reached none op logged = let no_op : None ≡ Some op = sym (none op.number) ∙ logged in absurd cc
-
--- ---- refusals
-
--- a fault or want of memory says of refusals what is always so
-fault_exactly : (refused : Option Refusal) → RefusesExactly refused reply.Fault
-fault_exactly refused = record { only = λ x is. absurd cc; always = λ x is. inr (inl refl) }
-
-memory_exactly : (refused : Option Refusal) → RefusesExactly refused reply.Memory
-memory_exactly refused = record { only = λ x is. absurd cc; always = λ x is. inr (inr refl) }
-
-refused_exactly : (refused : Option Refusal) (x : Refusal) → refused ≡ Some x → RefusesExactly refused (reply.Refused x)
-refused_exactly refused x is = record { only = λ y same. is ∙ ap Some (of_refused x y same); always = λ y other. inl (ap reply.Refused (of_some x y (sym is ∙ other))) }
+-- what is tried: the next number stays
+tries_short : (change : List Edit) (took : Bool) → logs_put change ≡ [] → (old new : Told) → new ≡ told_after old (short_commit change took) → IfContents old (λ image. next_operation (after_one image (short_commit change true)) ≡ next_operation image) → TriesShort old new
+tries_short change took no_log old new told number = record { change = change; took = took; quiet = no_log; told = told; number = by took }
   where
-    of_refused : (a b : Refusal) → reply.Refused a ≡ reply.Refused b → a ≡ b
-    of_refused a b same = cc
+    by : (b : Bool) → IfContents old (λ image. next_operation (after_one image (short_commit change b)) ≡ next_operation image)
+    by true = number
+    by false = contents_all old (λ image. next_operation image ≡ next_operation image) (λ image. refl)
 
-    of_some : (a b : Refusal) → Some a ≡ Some b → a ≡ b
-    of_some a b same = cc
+module _ (change : List Edit) (no_log : logs_put change ≡ []) (known : Known) (old new : Outside) where
+  -- what it is where it may be made
+  module _ (session : ℕ) (c : Command) (before : AllDoing) (planned : is_planned c ≡ true) (rests : before session ≡ Resting None) where
+    made_at : (image : Image) → IsSteady before image → MayMake c change image → CommitsAt session c (planned_is_short c planned) reply.Ok refl change true no_log before rests image
+    made_at image s may =
+        let so = may.changes session in record {
+          sound = so.sound;
+          numbers = so.numbers;
+          follows = short_done session c (planned_is_short c planned) (standing_with image nobody) (standing_with (after_one image (short_commit change true)) nobody) reply.Ok refl (so.accepts nobody) (so.becomes nobody);
+          stand = all_stand_short before image s.sound s.stand may.reached (after_one image (short_commit change true)) may.short may.none;
+          left = left_short before image (after_one image (short_commit change true)) may.reached s.left may.short;
+          settled = settled_short may.reached image (after_one image (short_commit change true)) may.short;
+        }
 
-answered_exactly : (refused : Option Refusal) (r : Reply) → is_short_answer r ≡ true → refused ≡ None → RefusesExactly refused r
-answered_exactly refused r answer none = record {
-  only = λ x is. let no_answer : is_short_answer (reply.Refused x) ≡ true = subst (λ s. is_short_answer s ≡ true) is answer in absurd cc;
-  always = λ x is. let both : None ≡ Some x = sym none ∙ is in absurd cc;
-}
-
-module _ (c : Command) (short : is_short c ≡ true) where
-  -- ---- nothing happens
-
-  -- a condition on contents on which a plan may rely that always holds
-  at_rest : (known : Known) (told : Told) (r : Reply) → ((image : Image) → AnswersAt c r image) → IfContents told (λ image. Relies known image → AnswersAt c r image)
-  at_rest known told r all = contents_all told (λ image. Relies known image → AnswersAt c r image) (λ image relies. all image)
-
-  pub answers_fault : (known : Known) (old new : Told) → new ≡ old → AnswersShort known old new c reply.Fault
-  answers_fault known old new same = inl (
-    same,
-    at_rest known old reply.Fault (λ image session connections. record {
-      follows = short_unmade session c short (standing_with image connections) (standing_with image connections) refl;
-      refuses = fault_exactly (refusal (standing_with image connections) session c);
-    }),
-  )
-
-  pub answers_memory : (known : Known) (old new : Told) → new ≡ old → AnswersShort known old new c reply.Memory
-  answers_memory known old new same = inl (
-    same,
-    at_rest known old reply.Memory (λ image session connections. record {
-      follows = short_memory session c short (standing_with image connections) (standing_with image connections) refl;
-      refuses = memory_exactly (refusal (standing_with image connections) session c);
-    }),
-  )
-
-  pub answers_refused : (known : Known) (old new : Told) (r : Refusal) → is_short_refusal r ≡ true → new ≡ old → IfContents old (λ image. Relies known image → (session : ℕ) → IsRefusedWith session c r image) → AnswersShort known old new c (reply.Refused r)
-  answers_refused known old new r word same plans = inl (
-    same,
-    contents_weaker old (λ image. Relies known image → (session : ℕ) → IsRefusedWith session c r image) (λ image. Relies known image → AnswersAt c (reply.Refused r) image)
-        (λ image refuses relies session connections. record {
-          follows = short_refused session c short (standing_with image connections) (standing_with image connections) r word (refuses relies session connections) refl;
-          refuses = refused_exactly (refusal (standing_with image connections) session c) r (refuses relies session connections);
-        }) plans,
-  )
-
-  pub answers_answer : (known : Known) (old new : Told) (r : Reply) → is_short_answer r ≡ true → new ≡ old → IfContents old (λ image. Relies known image → (session : ℕ) → IsShortAnswer session c r image) → AnswersShort known old new c r
-  answers_answer known old new r answer same plans = inl (
-    same,
-    contents_weaker old (λ image. Relies known image → (session : ℕ) → IsShortAnswer session c r image) (λ image. Relies known image → AnswersAt c r image)
-        (λ image answers relies session connections. let so = answers relies session connections in record {
-          follows = short_done session c short (standing_with image connections) (standing_with image connections) r answer so.0 so.1;
-          refuses = answered_exactly (refusal (standing_with image connections) session c) r answer so.0;
-        }) plans,
-  )
-
-  -- the reply, or `memory` in its place
-  pub answers_either : (known : Known) (old new : Told) (r s : Reply) → new ≡ old → (s ≡ r) ⊎ (s ≡ reply.Memory) → AnswersShort known old new c r → AnswersShort known old new c s
-  answers_either known old new r s same which answers = ⊎_elim (λ this. subst (AnswersShort known old new c) (sym this) answers) (λ memory. subst (AnswersShort known old new c) (sym memory) (answers_memory known old new same)) which
-
-  -- ---- the change is made, or it may be
-
-  module _ (known : Known) (change : List Edit) (no_log : logs_put change ≡ []) (r : Reply) (answer : is_short_answer r ≡ true) where
-    made : (image : Image) → (Relies known image → (session : ℕ) → IsShortChange session c change r image) → Relies known image → CommitsAt c r change true image
-    made image plans relies = record {
-      sound = (plans relies 1).sound;
-      numbers = (plans relies 1).numbers;
-      answers = λ session connections. let so = plans relies session in record {
-        follows = short_done session c short (standing_with image connections) (standing_with (after_one image (short_commit change true)) connections) r answer (so.accepts connections) (so.becomes connections);
-        refuses = answered_exactly (refusal (standing_with image connections) session c) r answer (so.accepts connections);
-      };
-    }
-
-    maybe : (took : Bool) (image : Image) → (Relies known image → (session : ℕ) → IsShortChange session c change r image) → Relies known image → CommitsAt c reply.Fault change took image
-    maybe true image plans relies = record {
-      sound = (plans relies 1).sound;
-      numbers = (plans relies 1).numbers;
-      answers = λ session connections. let so = plans relies session in record {
-        follows = short_made session c short (standing_with image connections) (standing_with (after_one image (short_commit change true)) connections) r (so.accepts connections) (so.becomes connections);
-        refuses = fault_exactly (refusal (standing_with image connections) session c);
-      };
-    }
-    maybe false image plans relies = record {
-      sound = relies.sound;
+    fault_at : (took : Bool) (image : Image) → IsSteady before image → MayMake c change image → CommitsAt session c (planned_is_short c planned) reply.Fault refl change took no_log before rests image
+    fault_at true image s may =
+        let so = may.changes session in record {
+          sound = so.sound;
+          numbers = so.numbers;
+          follows = short_made session c (planned_is_short c planned) (standing_with image nobody) (standing_with (after_one image (short_commit change true)) nobody) reply.Ok (so.accepts nobody) (so.becomes nobody);
+          stand = all_stand_short before image s.sound s.stand may.reached (after_one image (short_commit change true)) may.short may.none;
+          left = left_short before image (after_one image (short_commit change true)) may.reached s.left may.short;
+          settled = settled_short may.reached image (after_one image (short_commit change true)) may.short;
+        }
+    fault_at false image s may = record {
+      sound = s.sound;
       numbers = refl;
-      answers = λ session connections. record {
-        follows = short_unmade session c short (standing_with image connections) (standing_with image connections) refl;
-        refuses = fault_exactly (refusal (standing_with image connections) session c);
-      };
+      follows = short_unmade session c (planned_is_short c planned) (standing_with image nobody) (standing_with image nobody) refl;
+      stand = s.stand;
+      left = s.left;
+      settled = λ op is. is;
     }
 
-    pub answers_made : (old new : Told) → new ≡ told_after old (short_commit change true) → IfContents old (λ image. Relies known image → (session : ℕ) → IsShortChange session c change r image) → AnswersShort known old new c r
-    answers_made old new happened plans = inr (record {
-      change = change;
-      took = true;
-      no_log = no_log;
-      told = happened;
-      commits = contents_weaker old (λ image. Relies known image → (session : ℕ) → IsShortChange session c change r image) (λ image. Relies known image → CommitsAt c r change true image) made plans;
-    })
+    abbrev MayBe : Image → Type 0
+    MayBe image = IsSteady before image → known ≡ known_of (global image) → MayMake c change image
 
-    pub answers_maybe : (old new : Told) (took : Bool) → new ≡ told_after old (short_commit change took) → IfContents old (λ image. Relies known image → (session : ℕ) → IsShortChange session c change r image) → AnswersShort known old new c reply.Fault
-    answers_maybe old new took happened plans = inr (record {
-      change = change;
-      took = took;
-      no_log = no_log;
-      told = happened;
-      commits = contents_weaker old (λ image. Relies known image → (session : ℕ) → IsShortChange session c change r image) (λ image. Relies known image → CommitsAt c reply.Fault change took image) (maybe took) plans;
-    })
+    at_steady : AreSteady before old → IsCopy known old.told → IfContents old.told MayBe → IfContents old.told (λ image. IsSteady before image × MayMake c change image)
+    at_steady steady copy may = contents_weaker old.told (λ image. (IsSteady before image × (known ≡ known_of (global image))) × MayBe image) (λ image. IsSteady before image × MayMake c change image)
+        (λ image all. (all.0.0, all.1 all.0.0 all.0.1))
+        (contents_both old.told (λ image. IsSteady before image × (known ≡ known_of (global image))) MayBe (contents_both old.told (IsSteady before) (λ image. known ≡ known_of (global image)) steady copy) may)
+
+  -- ---- the answers of the commit
+
+  pub makes_done : (fresh : Known) → TellsCells old.told → ((s : Store) → IsKeyed s → known ≡ known_of s → fresh ≡ known_of (changed s change)) → new.told ≡ told_after old.told (short_commit change true) → MakesChange change reply.Ok known fresh old new
+  makes_done fresh cells follows told = record {
+    answers = inl refl;
+    tries = λ number. (refl, tries_short change true no_log old.told new.told told number);
+    ends = λ session c before planned rests may. commit_ends session c (planned_is_short c planned) reply.Ok refl change true no_log before rests old new told known fresh
+        (λ steady copy. contents_weaker old.told (λ image. IsSteady before image × MayMake c change image) (CommitsAt session c (planned_is_short c planned) reply.Ok refl change true no_log before rests)
+        (λ image both. made_at session c before planned rests image both.0 both.1) (at_steady session c before planned rests steady copy may))
+        (λ ok copy. copy_made old.told new.told known fresh change cells told follows copy);
+    cause = λ is. absurd cc;
+  }
+
+  pub makes_maybe : (took : Bool) → new.told ≡ told_after old.told (short_commit change took) → IsLater old new → Rose (old.faults_at 0) (new.faults_at 0) → MakesChange change reply.Fault known known old new
+  makes_maybe took told later rose = record {
+    answers = inr (inl refl);
+    tries = λ number. inl (refl, inr (tries_short change took no_log old.told new.told told number));
+    ends = λ session c before planned rests may. commit_ends session c (planned_is_short c planned) reply.Fault refl change took no_log before rests old new told known known
+        (λ steady copy. contents_weaker old.told (λ image. IsSteady before image × MayMake c change image) (CommitsAt session c (planned_is_short c planned) reply.Fault refl change took no_log before rests)
+        (λ image both. fault_at session c before planned rests took image both.0 both.1) (at_steady session c before planned rests steady copy may))
+        (λ ok. absurd (ok refl));
+    cause = λ is. rose_global old new later.faults rose;
+  }
+
+  pub makes_none : new.told ≡ old.told → MakesChange change reply.Memory known known old new
+  makes_none same = record {
+    answers = inr (inr refl);
+    tries = λ number. (refl, same);
+    ends = λ session c before planned rests may. memory_quietly session c (short_is_asked c planned) before rests old new same known;
+    cause = λ is. absurd cc;
+  }

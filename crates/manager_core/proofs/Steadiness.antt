@@ -3,6 +3,7 @@ use Rattle.std.proofs.Common.{◌≡◌, ℕ, refl, sym, ap, ◌∙◌, subst, S
 use Rattle.std.specs.FinMap as fin
 use Rattle.cell_world.specs.Images.{Image, Place, Happening, after_one, after_all, global}
 use Rattle.cell_world.specs.Marked.{jobs_after}
+use Rattle.cell_world.specs.Meaning.{meaning}
 use Rattle.cell_world.specs.Plain.{Connections, nobody}
 use Rattle.cell_world.specs.Outside.{Outside, Told, IfContents, told_after}
 use Rattle.cell_world.specs.Stores.{Store, Jobs}
@@ -29,7 +30,8 @@ use Rattle.operation_laws.specs.Leading.{Leads}
 use Rattle.operation_laws.specs.Left.{AreLeft}
 use Rattle.operation_laws.proofs.Lifts.{lifts, lifts_to}
 use Rattle.manager_core.specs.Answering.{IsCopy}
-use Rattle.manager_core.specs.Steady.{IsPlainOp, IsSteady, Becomes, seen_with}
+use Rattle.manager_core.specs.Steady.{IsPlainOp, IsSteady, AreSteady, IsSettledOp, KeepsMeaning, KeepsSettled, Becomes, seen_with}
+use Rattle.manager_core.proofs.SettledStays.{StaysSettled}
 use Rattle.manager_core.proofs.Copies.{contents_after}
 
 -- ---- the copy of the tables
@@ -101,14 +103,27 @@ passes_with P old new passes Q q = record {
   later = passes.later;
 }
 
+module _ (P : Image → List Happening → Type 0) (old new : Outside) (passes : Passes P old new) (before : AllDoing) where
+  -- what stays of the contents stays of what is told
+  pub keeps_meaning : ((image : Image) → IsSteady before image → P image passes.happened → meaning (after_all image passes.happened) ≡ meaning image) → AreSteady before old → KeepsMeaning old new
+  keeps_meaning same steady facts is = passes_on P old new passes (λ image. IsSteady before image × (meaning image ≡ facts)) (λ image. meaning image ≡ facts)
+      (λ image s p. same image s.0 p ∙ s.1) (contents_both old.told (IsSteady before) (λ image. meaning image ≡ facts) steady is)
+
+  pub keeps_settled : ((image : Image) → IsSteady before image → P image passes.happened → StaysSettled image (after_all image passes.happened)) → AreSteady before old → KeepsSettled old new
+  keeps_settled stays steady op is = passes_on P old new passes (λ image. IsSteady before image × IsSettledOp op image) (IsSettledOp op)
+      (λ image s p. stays image s.0 p op s.1) (contents_both old.told (IsSteady before) (IsSettledOp op) steady is)
+
 module _ (P : Image → List Happening → Type 0) (old new : Outside) (passes : Passes P old new) (before after : AllDoing) where
   -- what a law gives of a core, on its trail and by contents alone, and of what is left, is what the call makes of it
   pub becomes_by : ((t0 : ℕ) (start : Image) (mode : Mode) (past : Timeline) → IsSteady before (image_of start past) → P (image_of start past) passes.happened → Core Needs t0 start mode past nobody [] before → Core Needs t0 start mode (happened_on past passes.happened) nobody [] after)
       → ((first : Image) (past : Past) (image : Image) → IsSteady before image → P image passes.happened → CoreAlone Needs first past nobody image before → CoreAlone Needs first past nobody (after_all image passes.happened) after)
       → ((image : Image) → IsSteady before image → P image passes.happened → ((session : ℕ) (l : Live) → live_of (after session) ≡ Some l → IsPlainOp l.op) × AreLeft after (after_all image passes.happened))
+      → ((image : Image) → IsSteady before image → P image passes.happened → (meaning (after_all image passes.happened) ≡ meaning image) × StaysSettled image (after_all image passes.happened))
       → ((known : Known) (image : Image) → IsSteady before image → P image passes.happened → known ≡ known_of (global image) → known ≡ known_of (global (after_all image passes.happened)))
       → Becomes old new before after
-  becomes_by trail alone rest copy = record {
+  becomes_by trail alone rest stays copy = record {
+    same = keeps_meaning P old new passes before (λ image s p. (stays image s p).0);
+    settled = keeps_settled P old new passes before (λ image s p. (stays image s p).1);
     steady = passes_on P old new passes (IsSteady before) (IsSteady after)
         (λ image s p. let r = rest image s p in steady_of after image [] nobody (after_all image passes.happened) (alone image [] image s p (core_here before image s)) r.0 r.1);
     copy = λ known steady here. passes_on P old new passes (λ image. IsSteady before image × (known ≡ known_of (global image))) (λ image. known ≡ known_of (global image))
@@ -132,6 +147,8 @@ leads_then mode a b c one two three rest first second = record {
 pub becomes_then : (a b c : Outside) (one two three : AllDoing) → Becomes a b one two → Becomes b c two three → Becomes a c one three
 becomes_then a b c one two three first second = record {
   steady = λ s. second.steady (first.steady s);
+  same = λ s facts is. second.same (first.steady s) facts (first.same s facts is);
+  settled = λ s op is. second.settled (first.steady s) op (first.settled s op is);
   copy = λ known s k. second.copy known (first.steady s) (first.copy known s k);
   leads = λ s mode history. leads_then mode a.told b.told c.told (seen_with history one) (seen_with history two) (seen_with history three) [] (first.leads s mode history) (second.leads (first.steady s) mode history);
 }
@@ -139,6 +156,8 @@ becomes_then a b c one two three first second = record {
 pub becomes_same : (a b : Outside) (doing : AllDoing) → b.told ≡ a.told → Becomes a b doing doing
 becomes_same a b doing same = record {
   steady = λ s. subst (λ t. IfContents t (IsSteady doing)) (sym same) s;
+  same = λ s facts is. subst (λ t. IfContents t (λ image. meaning image ≡ facts)) (sym same) is;
+  settled = λ s op is. subst (λ t. IfContents t (IsSettledOp op)) (sym same) is;
   copy = λ known s k. subst (IsCopy known) (sym same) k;
   leads = λ s mode history. subst (λ t. Leads mode a.told t (seen_with history doing) (seen_with history doing) []) (sym same)
       (record { keeps = core_kept mode a.told (seen_with history doing); keeps_to = core_kept_to a.told (seen_with history doing) });

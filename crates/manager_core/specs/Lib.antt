@@ -1,5 +1,8 @@
 pub mod Answering
+pub mod Asking
 pub mod Beginnings
+pub mod Coming
+pub mod Concluding
 pub mod Cores
 pub mod Doings
 pub mod Events

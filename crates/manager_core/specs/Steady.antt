@@ -1,10 +1,11 @@
 -- What holds of the stores between two events, beside the run so far, and what a part of an event makes of a core.
 use Rattle.std.specs.Prelude.{◌≡◌, ℕ, List, [], Some}
 use Rattle.cell_world.specs.Images.{Image, end_of_trail}
-use Rattle.cell_world.specs.Plain.{nobody}
+use Rattle.cell_world.specs.Plain.{PlainState, nobody}
+use Rattle.cell_world.specs.Meaning.{meaning}
 use Rattle.cell_world.specs.Outside.{Outside, IfContents, IfTrail}
 use Rattle.cell_world.specs.Sound.{Sound, IsAttachedIn, locals_at}
-use Rattle.cell_world.specs.Marked.{HasNoMark}
+use Rattle.cell_world.specs.Marked.{HasNoMark, IsOutOfLog, mark_tables}
 use Rattle.cell_world.specs.Texts.{Text}
 use Rattle.cell_world.specs.declared.operations.Op.{Op}
 use Rattle.cell_world.specs.declared.operations.Extra.TheVariants as extra
@@ -49,18 +50,38 @@ pub record IsSteady (doing : AllDoing) (image : Image) : Type 0 where
 abbrev pub AreSteady : AllDoing → Outside → Type 0
 AreSteady doing outside = IfContents outside.told (IsSteady doing)
 
--- What a part of an event makes of a core that has nothing to write: no entry comes, and the sessions do this afterwards.
-pub record Becomes (old new : Outside) (before after : AllDoing) : Type 0 where
-  -- what held of the stores holds
-  pub steady : AreSteady before old → AreSteady after new
-  -- a copy of the tables is one afterwards
-  pub copy : (known : Known) → AreSteady before old → IsCopy known old.told → IsCopy known new.told
-  -- and the core goes on
-  pub leads : AreSteady before old → (mode : Mode) (history : List Entry) → Leads mode old.told new.told (seen_with history before) (seen_with history after) []
+-- ---- what is settled
 
 -- no mark of the operation stands at any attached site
 abbrev pub IsClean : Op → Image → Type 0
 IsClean op image = (location : Text) → IsAttachedIn image location → HasNoMark op (locals_at image location)
+
+-- The operation's number was given, no log row has it, and no mark of it stands at any attached site.
+pub record IsSettledOp (op : Op) (image : Image) : Type 0 where
+  pub out : IsOutOfLog (mark_tables image) op
+  pub clean : IsClean op image
+
+-- an operation that is settled stays so
+abbrev pub KeepsSettled : Outside → Outside → Type 0
+KeepsSettled old new = (op : Op) → IfContents old.told (IsSettledOp op) → IfContents new.told (IsSettledOp op)
+
+-- what the stores stand for stays
+abbrev pub KeepsMeaning : Outside → Outside → Type 0
+KeepsMeaning old new = (facts : PlainState) → IfContents old.told (λ image. meaning image ≡ facts) → IfContents new.told (λ image. meaning image ≡ facts)
+
+-- ---- parts of an event
+
+-- What a part of an event makes of a core that has nothing to write: no entry comes, and the sessions do this afterwards.
+pub record Becomes (old new : Outside) (before after : AllDoing) : Type 0 where
+  -- what held of the stores holds
+  pub steady : AreSteady before old → AreSteady after new
+  -- what the stores stand for stays, and so does what is settled
+  pub same : AreSteady before old → KeepsMeaning old new
+  pub settled : AreSteady before old → KeepsSettled old new
+  -- a copy of the tables is one afterwards
+  pub copy : (known : Known) → AreSteady before old → IsCopy known old.told → IsCopy known new.told
+  -- and the core goes on
+  pub leads : AreSteady before old → (mode : Mode) (history : List Entry) → Leads mode old.told new.told (seen_with history before) (seen_with history after) []
 
 -- The entry says that the session's command was answered so, and names the operation of this number, or 0.
 pub record Says (e : Entry) (session : ℕ) (c : Command) (r : Reply) (number : ℕ) : Type 0 where
@@ -73,6 +94,8 @@ pub record Says (e : Entry) (session : ℕ) (c : Command) (r : Reply) (number : 
 pub record Ends (session : ℕ) (c : Command) (r : Reply) (number : ℕ) (known fresh : Known) (old new : Outside) (before after : AllDoing) : Type 0 where
   -- what held of the stores holds
   pub steady : AreSteady before old → IsCopy known old.told → AreSteady after new
+  -- what is settled stays so
+  pub settled : AreSteady before old → IsCopy known old.told → KeepsSettled old new
   -- the copy is what the global cells say, unless a call failed
   pub copy : (r ≡ reply.Fault → ⊥) → AreSteady before old → IsCopy known old.told → IsCopy fresh new.told
   -- and the core goes on with the entry, made now, whose lines are still to be written

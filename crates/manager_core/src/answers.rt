@@ -1,25 +1,29 @@
 //! What a command is answered, and what it changes.
-ghost use Rattle.std.specs.Prelude.{◌≡◌, ◌≤◌, ◌⊎◌, ℕ, true, [], Option, IsErrOf, IfOk};
+ghost use Rattle.std.specs.Prelude.{◌≡◌, ◌⊎◌, ℕ, [], true, Option, IsErrOf, IfOk};
 ghost use Rattle.cell_world.specs.Counts.{Rose};
+ghost use Rattle.cell_world.specs.Images.{Image, global};
 ghost use Rattle.cell_world.specs.Outside.{IfContents, IsLater};
+ghost use Rattle.cell_world.specs.Sound.{Sound};
 ghost use Rattle.cell_world.specs.Stores.{Store, IsKeyed, changed};
 ghost use Rattle.global_tables.specs.Known.{known_of};
-ghost use Rattle.map_ops.specs.Planning.{is_planned};
+ghost use Rattle.map_ops.specs.Planning.{PlansChange, is_planned};
 ghost use Rattle.plain_model.specs.OnTrail.{logs_put};
-ghost use Rattle.plain_model.specs.ShortCommands.{is_short, is_short_answer, is_short_reply, IsShortChange};
 ghost use Rattle.plain_model.specs.Lines.{reply_lines};
-ghost use Rattle.manager_core.specs.Answering.{Relies, AnswersShort, CommitsChange, KeepsCopy, AreLines};
+ghost use Rattle.manager_core.specs.Answering.{CommitsChange, AreLines};
+ghost use Rattle.manager_core.specs.Asking.{AnswersNow, MakesChange};
+ghost use Rattle.manager_core.specs.Doings.{all_doing};
 
+use crate::clearing::clear;
+use crate::doings::Doings;
 use cell_world::cells::Site;
 use cell_world::changes::Change;
 use cell_world::items::Items;
 use cell_world::memory::Memory;
+use cell_world::operations::Reach;
 use cell_world::outside::{World, WorldError};
+use global_tables::faults::StepFault;
 use global_tables::known::KnownTables;
-use map_ops::planning::plan;
 use plain_model::commands::Command;
-use plain_model::history::Journal;
-use plain_model::plans::{Plan, PlanStop};
 use plain_model::replies::Reply;
 use script_lang::replies::write_reply;
 use std::alloc::Global;
@@ -43,7 +47,7 @@ pub fn no_memory() -> Answer
 }
 
 /// The answer with this reply; or `memory`, where there is none for its lines.
-fn answer_with(alloc: Global, tag: Option<u32>, reply: Reply) -> Answer
+pub fn answer_with(alloc: Global, tag: Option<u32>, reply: Reply) -> Answer
     ensures reply { (result.reply ≡ reply) ⊎ (result.reply ≡ Reply.Memory) }
     ensures lines { AreLines tag result.reply result.lines }
 {
@@ -73,19 +77,18 @@ struct Ready {
     known: KnownTables,
 }
 
-/// Makes all ready for a change with this reply. `Memory`: nothing was done.
+/// Makes all ready for a change. `Memory`: nothing was done.
 fn make_ready(
     alloc: Global,
     known: &KnownTables,
     tag: Option<u32>,
     change: &Change,
-    reply: &Reply,
 ) -> Result<Ready, Memory>
-    ensures done { IfOk result (λ ready. ready.done ≡ reply_lines tag reply.now) }
+    ensures done { IfOk result (λ ready. ready.done ≡ reply_lines tag Reply.Ok) }
     ensures fault { IfOk result (λ ready. ready.fault ≡ reply_lines tag Reply.Fault) }
     ensures known { IfOk result (λ ready. (s : Store) → IsKeyed s → known.now ≡ known_of s → ready.known ≡ known_of (changed s change.now)) }
 {
-    let done = write_reply(alloc, tag, reply)?;
+    let done = write_reply(alloc, tag, &Reply::Ok)?;
     let fault = write_reply(alloc, tag, &Reply::Fault)?;
     let known = known.changed(alloc, change)?;
     Ok(Ready {
@@ -95,33 +98,25 @@ fn make_ready(
     })
 }
 
-/// Makes the change of a plan in one transaction; then the reply is the plan's.
+/// Makes the change of a plan in one transaction; then the reply is `ok`.
 fn commit_change<W: World>(
     alloc: Global,
     world: &mut W,
     known: &mut KnownTables,
-    command: &Command,
     change: &Change,
-    reply: Reply,
     ready: Ready,
 ) -> Answer
-    requires short { is_short command.now ≡ true }
-    requires answer { is_short_answer reply ≡ true }
     requires no_log { logs_put change.now ≡ [] }
-    requires plans { IfContents (W.outside world.old).told (λ image. Relies known.old image → (session : ℕ) → IsShortChange session command.now change.now reply image) }
     requires known { (s : Store) → IsKeyed s → known.old ≡ known_of s → ready.known ≡ known_of (changed s change.now) }
-    ensures answers { AnswersShort known.old (W.outside world.old).told (W.outside world.new).told command.now result.reply }
-    ensures copy { KeepsCopy known.old (W.outside world.old).told known.new (W.outside world.new).told result.reply }
-    ensures lines { (tag : Option ℕ) → ready.done ≡ reply_lines tag reply → ready.fault ≡ reply_lines tag Reply.Fault → AreLines tag result.reply result.lines }
-    ensures short { is_short_reply result.reply ≡ true }
+    ensures makes { MakesChange change.now result.reply known.old known.new (W.outside world.old) (W.outside world.new) }
+    ensures lines { (tag : Option ℕ) → ready.done ≡ reply_lines tag Reply.Ok → ready.fault ≡ reply_lines tag Reply.Fault → AreLines tag result.reply result.lines }
     ensures later { IsLater (W.outside world.old) (W.outside world.new) }
-    ensures cause { result.reply ≡ Reply.Fault → Rose ((W.outside world.old).faults_at 0) ((W.outside world.new).faults_at 0) }
 {
     match commit(alloc, world, change) {
         Ok(()) => {
             *known = ready.known;
             Answer {
-                reply,
+                reply: Reply::Ok,
                 lines: Some(ready.done),
             }
         }
@@ -133,60 +128,52 @@ fn commit_change<W: World>(
     }
 }
 
-/// The reply to a command, which is done where it is not refused, and its lines. Room for both and for the changed copy of the tables is made before the transaction.
+/// Makes the change of a plan. Room for the lines of both outcomes and for the changed copy of the tables is made before the transaction.
 ///
-/// `Fault`: a store call failed, and the command was done or wasn't. `Memory`: it wasn't done.
-pub fn answer_command<W: World>(
+/// `Fault`: a store call failed, and the change was made or wasn't. `Memory`: it wasn't made.
+fn make_change<W: World>(
     alloc: Global,
     world: &mut W,
     known: &mut KnownTables,
     tag: Option<u32>,
-    command: &Command,
+    change: &Change,
 ) -> Answer
-    requires { is_planned command.now ≡ true }
-    ensures answers { AnswersShort known.old (W.outside world.old).told (W.outside world.new).told command.now result.reply }
-    ensures copy { KeepsCopy known.old (W.outside world.old).told known.new (W.outside world.new).told result.reply }
+    requires no_log { logs_put change.now ≡ [] }
+    ensures makes { MakesChange change.now result.reply known.old known.new (W.outside world.old) (W.outside world.new) }
     ensures lines { AreLines tag result.reply result.lines }
-    ensures short { is_short_reply result.reply ≡ true }
     ensures later { IsLater (W.outside world.old) (W.outside world.new) }
-    ensures cause { result.reply ≡ Reply.Fault → Rose ((W.outside world.old).faults_at 0) ((W.outside world.new).faults_at 0) }
 {
-    match plan(alloc, world, known, command) {
-        Ok(Plan::Short(_, change, reply)) => match make_ready(alloc, known, tag, &change, &reply) {
-            Ok(ready) => commit_change(alloc, world, known, command, &change, reply, ready),
-            Err(Memory) => no_memory(),
-        },
-        Ok(Plan::Answer(reply)) => answer_with(alloc, tag, reply),
-        Ok(Plan::Long(_)) => unreachable!(),
-        Err(PlanStop::Refused(refusal)) => answer_with(alloc, tag, Reply::Refused(refusal)),
-        Err(PlanStop::Store) => answer_with(alloc, tag, Reply::Fault),
-        Err(PlanStop::Memory) => no_memory(),
+    match make_ready(alloc, known, tag, change) {
+        Ok(ready) => commit_change(alloc, world, known, change, ready),
+        Err(Memory) => no_memory(),
     }
 }
 
-/// The reply to a command, where there is room for its entry and for one more; else `memory`, for whose entry there is
-/// room at all times.
-pub fn answer_in_room<W: World>(
+/// The reply to a short command whose change is planned: the way of its reach is cleared, and the change is made.
+///
+/// `Pending`: the live operation of this number is in its way, and nothing was done. `Fault`: a store call failed, and the change was
+/// made or wasn't. `Memory`: it wasn't made.
+pub fn answer_change<W: World>(
     alloc: Global,
     world: &mut W,
-    journal: &mut Journal,
     known: &mut KnownTables,
+    doings: &Doings,
     tag: Option<u32>,
     command: &Command,
+    reach: &Reach,
+    change: &Change,
 ) -> Answer
     requires planned { is_planned command.now ≡ true }
-    requires room { 1 ≤ journal.old.room }
-    ensures entries { journal.new.entries ≡ journal.old.entries }
-    ensures room { (1 ≤ journal.new.room) × ((result.reply ≡ Reply.Memory → ⊥) → 2 ≤ journal.new.room) }
-    ensures answers { AnswersShort known.old (W.outside world.old).told (W.outside world.new).told command.now result.reply }
-    ensures copy { KeepsCopy known.old (W.outside world.old).told known.new (W.outside world.new).told result.reply }
+    requires no_log { logs_put change.now ≡ [] }
+    requires plans { IfContents (W.outside world.old).told (λ (image : Image). Sound image → known.old ≡ known_of (global image) → PlansChange command.now reach.now change.now Reply.Ok image) }
+    ensures answers { AnswersNow command.now result.reply known.old known.new (all_doing doings.now) (W.outside world.old) (W.outside world.new) }
     ensures lines { AreLines tag result.reply result.lines }
-    ensures short { is_short_reply result.reply ≡ true }
     ensures later { IsLater (W.outside world.old) (W.outside world.new) }
-    ensures cause { result.reply ≡ Reply.Fault → Rose ((W.outside world.old).faults_at 0) ((W.outside world.new).faults_at 0) }
 {
-    match journal.make_room(2) {
-        Ok(()) => answer_command(alloc, world, known, tag, command),
-        Err(Memory) => no_memory(),
+    match clear(alloc, world, reach, &doings.live()) {
+        Ok(None) => make_change(alloc, world, known, tag, change),
+        Ok(Some(number)) => answer_with(alloc, tag, Reply::Pending(number)),
+        Err(StepFault::Store) => answer_with(alloc, tag, Reply::Fault),
+        Err(StepFault::Memory) => no_memory(),
     }
 }

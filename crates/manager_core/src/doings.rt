@@ -1,9 +1,10 @@
 //! What each session of a core does.
-ghost use Rattle.std.specs.Prelude.{◌≡◌, ◌≤◌, ◌<◌, Some, None, IfOk, IfSome, length};
+ghost use Rattle.std.specs.Prelude.{◌≡◌, ◌≤◌, ◌<◌, Some, None, IfOk, IfSome, is_some, length};
+ghost use Rattle.std.specs.List.{AllByRecursion};
 ghost use Rattle.op_steps.specs.declared.live.TheConstants.{MOST_LIVE};
 ghost use Rattle.operation_laws.specs.LiveNumbers.{AreTheLive};
 ghost use Rattle.session_laws.specs.Doing as laws;
-ghost use Rattle.session_laws.specs.Doing.{IsThen};
+ghost use Rattle.session_laws.specs.Doing.{IsThen, going_of};
 ghost use Rattle.operation_laws.specs.Left.{left_of, without_left};
 ghost use Rattle.manager_core.specs.Doings.{AreAtRest, IsLeftOver, IsProper, all_doing, doing_of, with_live};
 
@@ -79,6 +80,27 @@ impl Doings {
         Ok(Doings { seats })
     }
 
+    /// How many sessions there are.
+    pub fn sessions(&self) -> u32
+        ensures { result ≡ length self.now }
+    {
+        self.seats.len() as u32
+    }
+
+    /// There are at most 16. Nothing is done.
+    pub fn few(&self)
+        ensures { length self.now ≤ 16 }
+    {
+        let _ = &self.seats;
+    }
+
+    /// A command that is going is one operation, and what is left is committed. Nothing is done.
+    pub fn proper(&self)
+        ensures { AllByRecursion IsProper self.now }
+    {
+        let _ = &self.seats;
+    }
+
     /// What the session does. From then on it rests.
     pub fn take(&mut self, session: u32) -> Doing
         requires { (1 ≤ session) × (session ≤ length self.old) }
@@ -116,6 +138,14 @@ impl Doings {
                 None
             }
         }
+    }
+
+    /// Whether the session has a command going.
+    pub fn is_going(&self, session: u32) -> bool
+        requires { (1 ≤ session) × (session ≤ length self.now) }
+        ensures { result ≡ is_some (going_of (all_doing self.now session)) }
+    {
+        matches!(self.seats[session as usize - 1], Doing::Operating(_, _, _))
     }
 
     /// The numbers of the live operations.

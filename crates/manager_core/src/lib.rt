@@ -2,8 +2,13 @@
 #![tactic(auto)]
 
 mod answers;
+mod asking;
 pub mod beginning;
+mod clearing;
+mod coming;
 pub mod doings;
+mod ending;
+mod going;
 pub mod manager;
 pub mod moving;
 pub mod opening;

@@ -1,15 +1,22 @@
 //! The core: a world, the history of what was asked of it, and a copy of its tables. One call is one event.
-ghost use Rattle.std.specs.Prelude.{◌≡◌, ◌≤◌, None, Some, IfSome, IsErrOf, true};
+ghost use Rattle.std.specs.Prelude.{◌≡◌, ◌≤◌, Bool, Some, None, IfSome, IsErrOf, length};
 ghost use Rattle.cell_world.specs.Counts.{Rose};
 ghost use Rattle.cell_world.specs.Outside.{IsLater};
-ghost use Rattle.map_ops.specs.Planning.{is_planned};
 ghost use Rattle.plain_model.specs.Lines.{reply_lines, tag_of};
 ghost use Rattle.plain_model.specs.declared.replies.Reply.{Reply};
 ghost use Rattle.manager_core.specs.Answering.{AreLines, WritesText};
-ghost use Rattle.manager_core.specs.Cores.{IsReady, HasRoom};
-ghost use Rattle.manager_core.specs.Events.{MayCome, Comes, ComesAfter, Parts, ReadyAt, stop_after};
+ghost use Rattle.manager_core.specs.Coming.{HasLines, reply_of};
+ghost use Rattle.manager_core.specs.Concluding.{ComesOf, Waiting};
+ghost use Rattle.manager_core.specs.Cores.{HasRoom, Parts, parts};
+ghost use Rattle.manager_core.specs.Doings.{all_doing};
+ghost use Rattle.manager_core.specs.Events.{MayCome, Comes, ComesAfter, StaysReady, stop_after};
+ghost use Rattle.manager_core.specs.declared.manager.Event.{Event};
 
-use crate::answers::answer_in_room;
+use crate::answers::Answer;
+use crate::asking::ask_command;
+use crate::coming::Came;
+use crate::doings::Doings;
+use crate::going::go_command;
 use cell_world::items::Items;
 use cell_world::outside::{World, WorldError};
 use global_tables::known::KnownTables;
@@ -24,7 +31,7 @@ use std::alloc::Global;
 pub enum Event {
     /// A command of a session that has nothing going.
     Ask(Command),
-    /// One step more of what the session has going. For now no session has anything going between two events.
+    /// One step more of the command that the session has going.
     Go,
 }
 
@@ -42,7 +49,7 @@ pub enum StopCause {
 /// What became of an event.
 #[derive(Clone, Copy, Debug, PartialEq, Eq)]
 pub enum Outcome {
-    /// The session asks for another `Go`; the number of its live operation, or 0.
+    /// The command goes on: its session has another `Go` to come. The number is that of its live operation.
     Going(u64),
     /// The command has an entry with a reply of this sort, whose lines are written.
     Ended(Sort),
@@ -60,16 +67,19 @@ pub struct Core<W: World> {
     pub journal: Journal,
     /// What the global cells say of maps, shards, tables, sites and jobs, until the core stops.
     pub known: KnownTables,
-    /// Sessions are numbered from 1 to this, at most 16.
-    pub sessions: u32,
+    /// What each session does. Sessions are numbered from 1, at most 16.
+    pub doings: Doings,
     /// Why no more events are taken.
     pub stop: Option<StopCause>,
 }
 
-/// The number that stands in front of the lines of a session.
-fn tag_of(tagged: bool, session: u32) -> Option<u32>
-    ensures { result ≡ tag_of tagged session }
+/// The number that stands in front of the lines of a session, one of these.
+fn tag_of(doings: &Doings, tagged: bool, session: u32) -> Option<u32>
+    requires { (1 ≤ session) × (session ≤ length doings.now) }
+    ensures tag { result ≡ tag_of tagged session }
+    ensures number { IfSome result (λ number. (1 ≤ number) × (number ≤ 16)) }
 {
+    doings.few();
     if tagged { Some(session) } else { None }
 }
 
@@ -105,54 +115,98 @@ fn write_lines<W: World>(
 impl<W: World> Core<W> {
     /// One event of a session.
     ///
-    /// A command is answered in the event in which it is asked: it makes at most one transaction, adds one entry to the
-    /// history, and writes its reply in one write, each line with the session's number and a space in front where `tagged`.
+    /// `Ask`: what the session left is settled. A short command makes at most one transaction; a long one begins its operation
+    /// and is going. `Go`: the operation of the command that is going makes its next transaction. A command that ends adds one
+    /// entry to the history, and its reply is written in one write, each line with the session's number and a space in front
+    /// where `tagged`.
     /// `Stopped(Sink)`, `Stopped(Memory)`: the entry stands, and its lines are not all written; nothing is done from then on.
     pub fn event(&mut self, alloc: Global, session: u32, event: Event, tagged: bool) -> Outcome
-        requires session { (1 ≤ session) × (session ≤ self.old.sessions) × (self.old.sessions ≤ 16) }
-        requires may_come { MayCome event }
+        requires session { (1 ≤ session) × (session ≤ length self.old.doings) }
+        requires may_come { MayCome event (all_doing self.old.doings session) }
         requires room { HasRoom self.old.journal self.old.stop }
         ensures comes { ComesAfter self.old.stop tagged session event
-            (record { outside = W.outside self.old.world; history = self.old.journal.entries; known = self.old.known; stop = self.old.stop })
-            (record { outside = W.outside self.new.world; history = self.new.journal.entries; known = self.new.known; stop = self.new.stop }) result }
-        // between two events the copy of the tables is what the global cells say
-        ensures ready { IsReady self.old.known self.old.stop (W.outside self.old.world).told → IsReady self.new.known self.new.stop (W.outside self.new.world).told }
+            (parts (W.outside self.old.world) self.old.journal.entries self.old.doings self.old.known self.old.stop)
+            (parts (W.outside self.new.world) self.new.journal.entries self.new.doings self.new.known self.new.stop) result }
+        // between two events the stores are steady beside what the sessions do, and the copy of the tables is what the global cells say
+        ensures stays { StaysReady
+            (parts (W.outside self.old.world) self.old.journal.entries self.old.doings self.old.known self.old.stop)
+            (parts (W.outside self.new.world) self.new.journal.entries self.new.doings self.new.known self.new.stop) }
         ensures room { HasRoom self.new.journal self.new.stop }
-        ensures sessions { self.new.sessions ≡ self.old.sessions }
+        ensures sessions { length self.new.doings ≡ length self.old.doings }
         ensures later { IsLater (W.outside self.old.world) (W.outside self.new.world) }
     {
         if let Some(cause) = self.stop {
             return Outcome::Stopped(cause);
         }
-        match event {
-            Event::Ask(command) => self.ask(alloc, session, command, tagged),
-            Event::Go => unreachable!(),
+        let tag = tag_of(&self.doings, tagged, session);
+        match self.come(alloc, session, tag, event) {
+            Came::Going(number) => Outcome::Going(number),
+            Came::Ended(command, answer, number) => {
+                self.conclude(alloc, session, tag, command, answer, number)
+            }
         }
     }
 
-    /// A command of a session.
-    fn ask(&mut self, alloc: Global, session: u32, command: Command, tagged: bool) -> Outcome
-        requires session { (1 ≤ session) × (session ≤ 16) }
-        requires planned { is_planned command ≡ true }
-        requires goes { self.old.stop ≡ None }
+    /// The event up to its entry: a command is asked, or one that is going goes on.
+    fn come(&mut self, alloc: Global, session: u32, tag: Option<u32>, event: Event) -> Came
+        requires session { (1 ≤ session) × (session ≤ length self.old.doings) }
+        requires may_come { MayCome event (all_doing self.old.doings session) }
         requires room { 1 ≤ self.old.journal.room }
-        ensures comes { Comes tagged session command
-            (record { outside = W.outside self.old.world; history = self.old.journal.entries; known = self.old.known; stop = self.old.stop })
-            (record { outside = W.outside self.new.world; history = self.new.journal.entries; known = self.new.known; stop = self.new.stop }) result }
-        ensures ready { IsReady self.old.known self.old.stop (W.outside self.old.world).told → IsReady self.new.known self.new.stop (W.outside self.new.world).told }
-        ensures room { HasRoom self.new.journal self.new.stop }
-        ensures sessions { self.new.sessions ≡ self.old.sessions }
+        ensures comes { ComesOf session event result
+            (parts (W.outside self.old.world) self.old.journal.entries self.old.doings self.old.known self.old.stop)
+            (parts (W.outside self.new.world) self.new.journal.entries self.new.doings self.new.known self.new.stop) }
+        ensures lines { HasLines tag result }
+        ensures room { (1 ≤ self.new.journal.room) × ((reply_of result ≡ Some Reply.Memory → ⊥) → 2 ≤ self.new.journal.room) }
+        ensures sessions { length self.new.doings ≡ length self.old.doings }
         ensures later { IsLater (W.outside self.old.world) (W.outside self.new.world) }
     {
-        let tag = tag_of(tagged, session);
-        let answer = answer_in_room(
-            alloc,
-            &mut self.world,
-            &mut self.journal,
-            &mut self.known,
-            tag,
-            &command,
-        );
+        match event {
+            Event::Ask(command) => ask_command(
+                alloc,
+                &mut self.world,
+                &mut self.journal,
+                &mut self.known,
+                &mut self.doings,
+                session,
+                tag,
+                command,
+            ),
+            Event::Go => go_command(
+                alloc,
+                &mut self.world,
+                &mut self.journal,
+                &mut self.doings,
+                session,
+                tag,
+            ),
+        }
+    }
+
+    /// A command has ended: its entry is made, and its lines are written in one write.
+    ///
+    /// `Stopped(Sink)`, `Stopped(Memory)`: the entry stands, and its lines are not all written.
+    fn conclude(
+        &mut self,
+        alloc: Global,
+        session: u32,
+        tag: Option<u32>,
+        command: Command,
+        answer: Answer,
+        number: u64,
+    ) -> Outcome
+        requires tag { IfSome tag (λ number. (1 ≤ number) × (number ≤ 16)) }
+        requires lines { AreLines tag answer.reply answer.lines }
+        requires room { (1 ≤ self.old.journal.room) × ((answer.reply ≡ Reply.Memory → ⊥) → 2 ≤ self.old.journal.room) }
+        ensures comes { (old : Parts) (event : Event) (tagged : Bool) → tag ≡ tag_of tagged session
+            → Waiting session event command answer.reply number old (parts (W.outside self.old.world) self.old.journal.entries self.old.doings self.old.known self.old.stop)
+            → Comes tagged session event old (parts (W.outside self.new.world) self.new.journal.entries self.new.doings self.new.known self.new.stop) result }
+        ensures stays { (old : Parts) (event : Event)
+            → Waiting session event command answer.reply number old (parts (W.outside self.old.world) self.old.journal.entries self.old.doings self.old.known self.old.stop)
+            → StaysReady old (parts (W.outside self.new.world) self.new.journal.entries self.new.doings self.new.known self.new.stop) }
+        ensures room { HasRoom self.new.journal self.new.stop }
+        ensures sessions { length self.new.doings ≡ length self.old.doings }
+        ensures later { IsLater (W.outside self.old.world) (W.outside self.new.world) }
+    {
         let moment = self.world.moment();
         let sort = answer.reply.sort();
         self.stop = stop_after(&answer.reply);
@@ -161,7 +215,7 @@ impl<W: World> Core<W> {
             command,
             reply: Some(answer.reply),
             moment,
-            operation: 0,
+            operation: number,
         });
         match write_lines(alloc, &mut self.world, tag, &answer.lines) {
             Ok(()) => Outcome::Ended(sort),

@@ -1,11 +1,16 @@
 //! How a core begins, what it tells of itself, and how it ends.
-ghost use Rattle.std.specs.Prelude.{◌≡◌, ◌⊎◌, ◌&&◌, ◌==◌, [], None, length, filter, is_some, false, IfOk, IfErr, IsErrOf, IsOk};
-ghost use Rattle.cell_world.specs.Outside.{IsLater, StoreRoseBy};
+ghost use Rattle.std.specs.Prelude.{◌≡◌, ◌⊎◌, ◌≤◌, ◌&&◌, ◌==◌, [], None, length, filter, is_some, false, IfOk, IfErr, IsErrOf, IsOk};
+ghost use Rattle.cell_world.specs.Outside.{IfContents, IsLater, StoreRoseBy};
 ghost use Rattle.plain_model.specs.Headline.{answered_by};
 ghost use Rattle.plain_model.specs.declared.history.Entry.{Entry};
 ghost use Rattle.manager_core.specs.Answering.{IsCopy};
-ghost use Rattle.manager_core.specs.Cores.{HasRoom, FaultHasCause, KnowsAll, Opens, AreRecovered};
+ghost use Rattle.cell_world.specs.Sound.{Sound};
+ghost use Rattle.session_laws.specs.Doing.{going_of};
+ghost use Rattle.manager_core.specs.Cores.{HasRoom, IsReady, FaultHasCause, Finishes, KnowsAll, Opens, AreRecovered, parts};
+ghost use Rattle.manager_core.specs.Doings.{AreAtRest, all_doing};
 
+use crate::doings::Doings;
+use crate::ending::settle_rest;
 use crate::manager::Core;
 use cell_world::locations::Location;
 use cell_world::memory::Memory;
@@ -28,11 +33,15 @@ pub enum StartFault {
     UnknownLocation(Location),
 }
 
-/// How a core ended. For now nothing is left to be settled at its end.
+/// How a core ended: what became of what its sessions had left to settle.
 #[derive(Clone, Copy, Debug, PartialEq, Eq)]
 pub enum Tail {
     /// Nothing of an operation that was committed is left.
     Settled,
+    /// A store refused while an operation was settled: marks of it are left, and those that came after it aren't settled.
+    Store,
+    /// So for want of memory.
+    Memory,
 }
 
 /// What a core tells of a session.
@@ -61,6 +70,7 @@ impl From<StepFault> for StartFault {
 /// Undoes each operation that is logged, and copies the tables.
 fn open_tables<W: World>(alloc: Global, world: &mut W) -> Result<KnownTables, StepFault>
     ensures opens { Opens (W.outside world.old).told (W.outside world.new).told }
+    ensures sound { IfContents (W.outside world.old).told Sound → IfContents (W.outside world.new).told Sound }
     ensures recovers { IsOk result → AreRecovered (W.outside world.old).told (W.outside world.new).told }
     ensures copy { IfOk result (λ known. IsCopy known (W.outside world.new).told) }
     ensures cause { IsErrOf result StepFault.Store → StoreRoseBy 1 (W.outside world.old) (W.outside world.new) }
@@ -75,6 +85,7 @@ fn open_tables<W: World>(alloc: Global, world: &mut W) -> Result<KnownTables, St
 /// Looks whether the world knows all locations that the global store names, and then opens the stores.
 fn open_stores<W: World>(alloc: Global, world: &mut W) -> Result<KnownTables, StartFault>
     ensures opens { Opens (W.outside world.old).told (W.outside world.new).told }
+    ensures sound { IfContents (W.outside world.old).told Sound → IfContents (W.outside world.new).told Sound }
     ensures recovers { IsOk result → AreRecovered (W.outside world.old).told (W.outside world.new).told }
     ensures copy { IfOk result (λ known. IsCopy known (W.outside world.new).told) }
     ensures all_known { IsOk result → KnowsAll (W.outside world.old) }
@@ -100,9 +111,10 @@ impl<W: World> Core<W> {
     /// nothing was changed; `Store`, a store refused; `Memory`, want of memory. After these two some logged operations may
     /// be undone.
     pub fn start(alloc: Global, world: W, sessions: u32) -> Result<Core<W>, (StartFault, W)>
+        requires sessions { sessions ≤ 16 }
         ensures history { IfOk result (λ core. core.journal.entries ≡ []) }
         ensures goes { IfOk result (λ core. core.stop ≡ None) }
-        ensures sessions { IfOk result (λ core. core.sessions ≡ sessions) }
+        ensures sessions { IfOk result (λ core. length core.doings ≡ sessions) }
         ensures room { IfOk result (λ core. HasRoom core.journal core.stop) }
         // the copy of the tables is what the global cells say, and all locations that they name are known
         ensures copy { IfOk result (λ core. IsCopy core.known (W.outside core.world).told) }
@@ -110,6 +122,8 @@ impl<W: World> Core<W> {
         // it rests, the stores stand for the same as before, and no operation is logged
         ensures opens { IfOk result (λ core. Opens (W.outside world).told (W.outside core.world).told) }
         ensures recovers { IfOk result (λ core. AreRecovered (W.outside world).told (W.outside core.world).told) }
+        ensures rests { IfOk result (λ core. AreAtRest core.doings) }
+        ensures ready { IfOk result (λ core. IfContents (W.outside world).told Sound → IsReady (parts (W.outside core.world) core.journal.entries core.doings core.known core.stop)) }
         ensures later { IfOk result (λ core. IsLater (W.outside world) (W.outside core.world)) }
         // else what was done is sound at each moment, and nothing was where a location is unknown
         ensures fault { IfErr result (λ stop. FaultHasCause (W.outside world) (W.outside stop.1) stop.0) }
@@ -123,15 +137,15 @@ impl<W: World> Core<W> {
             Err(fault) => return Err((fault, world)),
         };
         let mut journal = Journal::new(alloc);
-        match journal.make_room(1) {
-            Ok(()) => Ok(Core {
+        match (journal.make_room(1), Doings::new(alloc, sessions)) {
+            (Ok(()), Ok(doings)) => Ok(Core {
                 world,
                 journal,
                 known,
-                sessions,
+                doings,
                 stop: None,
             }),
-            Err(Memory) => Err((StartFault::Memory, world)),
+            _ => Err((StartFault::Memory, world)),
         }
     }
 
@@ -142,31 +156,33 @@ impl<W: World> Core<W> {
         self.journal.len() as u64
     }
 
-    /// What it tells of a session. Takes no memory.
+    /// What it tells of a session, one of its own. Takes no memory.
     pub fn standing(&self, session: u32) -> Standing
+        requires { (1 ≤ session) × (session ≤ length self.now.doings) }
         ensures answered { result.answered ≡ length (answered_by session self.now.journal.entries) }
-        ensures going { result.going ≡ false }
+        ensures going { result.going ≡ is_some (going_of (all_doing self.now.doings session)) }
     {
         Standing {
             answered: answered(session, self.journal.as_slice()),
-            going: false,
+            going: self.doings.is_going(session),
         }
     }
 
-    /// The core ends: its history, and the world. Takes no memory.
-    pub fn finish(self) -> (History, Tail, W)
+    /// The core ends: what its sessions left is settled, and its history and the world are handed back.
+    pub fn finish(self, alloc: Global) -> (History, Tail, W)
         ensures history { result.0 ≡ self.journal.entries }
-        ensures tail { result.1 ≡ Tail.Settled }
-        ensures world { result.2 ≡ self.world }
+        ensures finishes { Finishes (parts (W.outside self.world) self.journal.entries self.doings self.known self.stop) (W.outside result.2) result.1 }
+        ensures later { IsLater (W.outside self.world) (W.outside result.2) }
     {
         let Core {
-            world,
+            mut world,
             journal,
             known: _,
-            sessions: _,
+            mut doings,
             stop: _,
         } = self;
-        (journal.into_history(), Tail::Settled, world)
+        let tail = settle_rest(alloc, &mut world, &mut doings);
+        (journal.into_history(), tail, world)
     }
 }
 

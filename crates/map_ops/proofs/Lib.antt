@@ -2,6 +2,7 @@ pub mod AddPlans
 pub mod AskingLaws
 pub mod Checks
 pub mod KnownLocations
+pub mod MadeLater
 pub mod OverlapLaws
 pub mod PlanLaws
 pub mod PlannedLaws

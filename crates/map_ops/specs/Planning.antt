@@ -1,7 +1,7 @@
 -- What a plan says.
 use Rattle.std.specs.Prelude.{◌≡◌, ℕ, Bool, true, false, ◌&&◌, ◌||◌, not, Option, Some, None, Result, Ok, Err, List, [], IsTrue}
 use Rattle.std.specs.List.{AllByRecursion}
-use Rattle.cell_world.specs.Images.{Image, global}
+use Rattle.cell_world.specs.Images.{Image, after_one, global}
 use Rattle.cell_world.specs.Lawful.{Lawful}
 use Rattle.cell_world.specs.Plain.{PlainState, Connections, with_connections}
 use Rattle.cell_world.specs.Meaning.{meaning}
@@ -15,6 +15,7 @@ use Rattle.cell_world.specs.declared.operations.Extra.TheVariants as extra
 use Rattle.cell_world.specs.declared.operations.Op.{Op}
 use Rattle.cell_world.specs.declared.operations.Reach.{Reach}
 use Rattle.global_tables.specs.Known.{Known, known_of}
+use Rattle.op_log.specs.ShortChanges.{ShortChange}
 use Rattle.plain_model.specs.declared.commands.Command.{Command}
 use Rattle.plain_model.specs.declared.commands.Command.TheVariants as command
 use Rattle.plain_model.specs.declared.plans.Plan.{Plan}
@@ -22,11 +23,12 @@ use Rattle.plain_model.specs.declared.plans.Plan.TheVariants as plan
 use Rattle.plain_model.specs.declared.plans.PlanStop.{PlanStop}
 use Rattle.plain_model.specs.declared.plans.PlanStop.TheVariants as stop
 use Rattle.plain_model.specs.declared.replies.Reply.{Reply}
+use Rattle.plain_model.specs.declared.replies.Reply.TheVariants as reply
 use Rattle.plain_model.specs.declared.replies.Refusal.{Refusal}
 use Rattle.plain_model.specs.Legal.{IsOwnOf}
 use Rattle.plain_model.specs.OnTrail.{logs_put, reach_of_command}
 use Rattle.plain_model.specs.Refusing.{Check, refusal, locked}
-use Rattle.plain_model.specs.ShortCommands.{is_short, is_short_answer, is_short_refusal, standing_with, IsShortChange, IsShortAnswer, IsRefusedWith}
+use Rattle.plain_model.specs.ShortCommands.{is_short, is_short_answer, is_short_refusal, short_commit, standing_with, IsShortChange, IsShortAnswer, IsRefusedWith}
 
 -- the short commands that aren't planned yet
 abbrev pub is_unbuilt : Command → Bool
@@ -86,8 +88,10 @@ pub record PlansChange (c : Command) (reached : Reach) (change : List Edit) (r :
   pub reaches : reached ≡ reach_of_command (meaning image) c
   -- the plain step doesn't refuse
   pub accepts : Refuses c None image
-  -- once no logged operation conflicts with the reach, the change makes what the plain step makes, for any session
-  pub changes : NoneInWay image reached → (session : ℕ) → IsShortChange session c change r image
+  -- on each sound image that stands for the same, where no logged operation conflicts with the reach, the change makes what the plain step makes, for any session
+  pub changes : (later : Image) → Sound later → meaning later ≡ meaning image → NoneInWay later reached → (session : ℕ) → IsShortChange session c change r later
+  -- and it is one of the short changes, with this reach
+  pub short : (later : Image) → Sound later → meaning later ≡ meaning image → NoneInWay later reached → ShortChange later reached (after_one later (short_commit change true))
 
 -- The plan of a long operation.
 pub record PlansLong (c : Command) (op : Op) (image : Image) : Type 0 where
@@ -121,10 +125,10 @@ PlansOf known c result = (image : Image) → PlansWith known c result image
 
 -- ---- whatever the image
 
--- So is the plan of a short command: it is no long one and puts no log cell, and what is answered or refused is said by a short command.
+-- So is the plan of a short command: it is no long one. A change puts no log cell, and is answered `ok`; what is answered otherwise, or refused, is said by a short command.
 abbrev pub IsShortPlan : Result Plan PlanStop → Type 0
-IsShortPlan (Ok (plan.Short reached change r)) = (logs_put change ≡ []) × (is_short_answer r ≡ true)
-IsShortPlan (Ok (plan.Answer r)) = is_short_answer r ≡ true
+IsShortPlan (Ok (plan.Short reached change r)) = (logs_put change ≡ []) × (r ≡ reply.Ok)
+IsShortPlan (Ok (plan.Answer r)) = (is_short_answer r ≡ true) × (r ≡ reply.Ok → ⊥)
 IsShortPlan (Ok (plan.Long op)) = ⊥
 IsShortPlan (Err (stop.Refused r)) = is_short_refusal r ≡ true
 IsShortPlan (Err stop.Store) = Unit {0}

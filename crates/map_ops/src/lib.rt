@@ -2,7 +2,7 @@
 #![tactic(auto)]
 
 mod adding;
-mod asking;
+pub mod asking;
 mod changes;
 mod long_plans;
 mod mappings;
@@ -10,10 +10,10 @@ mod maps;
 mod new_mappings;
 mod overlapping;
 pub mod planning;
-mod refusals;
+pub mod refusals;
 mod shards;
 mod short_plans;
-mod stops;
+pub mod stops;
 mod tables;
 mod unshard_refusals;
-mod words;
+pub mod words;

@@ -17,12 +17,14 @@ use std::alloc::Global;
 use thiserror::Error;
 
 /// The commands that are built so far: no other word begins a command.
-pub const BUILT: [Verb; 8] = [
+pub const BUILT: [Verb; 10] = [
     Verb::Map,
     Verb::Unmap,
     Verb::Shard,
     Verb::Unshard,
     Verb::Table,
+    Verb::Add,
+    Verb::Addpoint,
     Verb::Find,
     Verb::List,
     Verb::Shards,

@@ -1,12 +1,12 @@
 -- What the whole call promises, by how it ends.
-use Rattle.std.proofs.Common.{◌≡◌, ◌≢◌, ◌⊎◌, inl, inr, ⊎_elim, ℕ, ◌+◌, ◌<◌, ◌≤◌, Bool, true, false, List, [], ◌∷◌, length, Option, Some, None, option_map, refl, sym, ap, ◌∙◌, subst, arith}
+use Rattle.std.proofs.Common.{◌≡◌, ◌⊎◌, inl, inr, ⊎_elim, ℕ, ◌<◌, ◌≤◌, Bool, true, false, List, [], length, Option, Some, None, option_map, refl, sym, ap, ◌∙◌, subst, arith}
 use Rattle.std.specs.Bool.{MatchBool}
 use Rattle.cell_world.specs.Texts.{Text}
 use Rattle.cell_world.specs.Counts.{Rose}
-use Rattle.cell_world.specs.Images.{Image, global, image_at, end_of_trail}
-use Rattle.cell_world.specs.Outside.{Outside, Told, TellsNothing, TellsContents, TellsTrail, IfContents, IsLater, StoreRoseBy}
-use Rattle.cell_world.proofs.ContentsLaws.{contents_weaker}
-use Rattle.cell_world.proofs.OutsideLaws.{later_same, later_then, store_rose_none, store_rose_one}
+use Rattle.cell_world.specs.Images.{global, image_at, end_of_trail}
+use Rattle.cell_world.specs.Outside.{Outside, Told, TellsNothing, TellsContents, TellsTrail, IfContents, IsLater}
+use Rattle.cell_world.proofs.ContentsLaws.{contents_all}
+use Rattle.cell_world.proofs.OutsideLaws.{later_same, later_then, store_rose_none}
 use Rattle.plain_model.specs.declared.commands.Asked.{Asked}
 use Rattle.plain_model.specs.declared.finish.Reason.{Reason}
 use Rattle.plain_model.specs.declared.finish.RunStatus.{RunStatus}
@@ -17,11 +17,9 @@ use Rattle.plain_model.specs.Headline.{is_done, Causes, StatusCause, ComesByInpu
 use Rattle.plain_model.proofs.RunsAreHeadlines.{ends_on_trail, ends_by_states, is_headline, is_headline_alone}
 use Rattle.session_laws.specs.Contract.{at_rest, course_of}
 use Rattle.session_laws.proofs.ContractLaws.{core_has_gone_on, core_has_gone_to}
-use Rattle.plain_runs.specs.PlainRuns.{IsPlainRun}
 use Rattle.cell_world.specs.Sound.{Sound}
-use Rattle.manager_core.specs.Answering.{NoLog}
 use Rattle.site_names.specs.Named.{TellsFirst}
-use Rattle.manager_core.specs.Cores.{FaultHasCause, KnowsAll, Opens, IsRecovered, AreRecovered}
+use Rattle.manager_core.specs.Cores.{Parts, IsReady, FaultHasCause, KnowsAll, Opens}
 use Rattle.manager_core.proofs.OpeningLaws.{opens_untouched, rose_by_before}
 use Rattle.manager_core.specs.declared.opening.StartFault.{StartFault}
 use Rattle.manager_core.specs.declared.opening.StartFault.TheVariants as start
@@ -34,8 +32,8 @@ use Rattle.script_shell.specs.Promises.{Runs, RunsScript, IsRead, Completes, for
 use Rattle.script_shell.specs.Reading.{IsReadScript, StopsReading, unopened}
 use Rattle.script_shell.proofs.HistoryLaws.{in_order}
 use Rattle.script_lang.proofs.WholeScripts.{script_is_whole, one_fault}
-use Rattle.script_shell.proofs.PlainEnds.{runs_plainly}
-use Rattle.script_shell.proofs.ScriptLaws.{script_is_planned, script_is_plain}
+use Rattle.script_shell.proofs.PlainEnds.{in_its_contents, on_its_trail, runs_plainly}
+use Rattle.script_shell.proofs.ScriptLaws.{script_is_asked}
 use Rattle.script_shell.proofs.UnknownLaws.{one_unknown}
 use Rattle.script_shell.proofs.WordLaws.{accepted_is_not_bad, one_bad_place}
 
@@ -216,7 +214,9 @@ module _ (words : List Text) (left after : Option Text) (faults_before faults_af
       status = status_nothing cause input opening;
       plain = λ done plain. let both : true ≡ false = sym done ∙ not_done in absurd cc;
       ends_with_fault = tt;
-      no_operations = tt;
+      numbered = tt;
+      named = λ sound. contents_all new.told _ (λ image. tt);
+      settled = λ done calm sound. tt;
     }
 
 -- the run stopped before the stores
@@ -276,20 +276,20 @@ module _ (words : List Text) (left after : Option Text) (faults_before faults_af
 
   -- ---- the commands were run
 
-  module _ (old mid new : Outside) (history : List Entry) (ending : RunStatus) (opens : Opens old.told mid.told) (recovered : AreRecovered old.told mid.told) (later : IsLater old mid) (known : KnowsAll old) (runs : Runs script mid new history ending)
-      (cause : StatusCause for_now no_causes mid new history ending) (of_commands : is_of_commands ending ≡ true) where
+  module _ (old : Outside) (core : Parts) (new : Outside) (history : List Entry) (ending : RunStatus) (opens : Opens old.told core.outside.told) (ready : IfContents old.told Sound → IsReady core) (later : IsLater old core.outside) (known : KnowsAll old)
+      (runs : Runs script core new history ending) (cause : StatusCause for_now no_causes core.outside new history ending) (of_commands : is_of_commands ending ≡ true) where
     -- a status that comes of the commands has its cause, whatever words and input say
     comes : StatusCause for_now its_causes old new history ending × (did_nothing ending ≡ false)
     comes = by ending of_commands cause
       where
-        by : (ending : RunStatus) → is_of_commands ending ≡ true → StatusCause for_now no_causes mid new history ending → StatusCause for_now its_causes old new history ending × (did_nothing ending ≡ false)
+        by : (ending : RunStatus) → is_of_commands ending ≡ true → StatusCause for_now no_causes core.outside new history ending → StatusCause for_now its_causes old new history ending × (did_nothing ending ≡ false)
         by status.Done of cause = (cause, refl)
         by status.Refused of cause = (cause, refl)
         by (status.BadWords place) of cause = absurd cause
         by (status.BadScript line reason) of cause = absurd cause
         by status.ReadFault of cause = absurd cause
-        by status.WriteFault of cause = ((rose_before old.sink_faults mid.sink_faults new.sink_faults later.sink cause.0, cause.1), refl)
-        by status.StoreFault of cause = ((rose_by_before 1 old mid new later cause.0, cause.1, cause.2), refl)
+        by status.WriteFault of cause = ((rose_before old.sink_faults core.outside.sink_faults new.sink_faults later.sink cause.0, cause.1), refl)
+        by status.StoreFault of cause = ((rose_by_before 1 old core.outside new later cause.0, cause.1, cause.2), refl)
         by status.Memory of cause = (cause, refl)
         by status.TooLong of cause = absurd cause
         by (status.UnknownLocation location) of cause = absurd cc
@@ -301,7 +301,7 @@ module _ (words : List Text) (left after : Option Text) (faults_before faults_af
       by_opening = λ is location told. absurd (none_unknown old known location told);
       unknown = λ is location told. absurd (none_unknown old known location told);
       kept = record {
-        few_faults = rose_by_before (faults history) old mid new later runs.kept.few_faults;
+        few_faults = rose_by_before (faults history) old core.outside new later runs.kept.few_faults;
         ends_with_memory = runs.kept.ends_with_memory;
         nothing = runs.kept.nothing;
         unchanged = λ is. let both : true ≡ false = sym is ∙ comes.1 in absurd cc;
@@ -319,24 +319,19 @@ module _ (words : List Text) (left after : Option Text) (faults_before faults_af
       drained = λ is. read.drained;
       source = read.source;
       handed_back = λ is. absurd (not_both ending of_commands is);
-      later = later_then old mid new later runs.later;
+      later = later_then old core.outside new later runs.later;
       headline = λ before told sound. is_headline for_now false its_causes script before old new history ending
-          (runs.on_trail before (opens.on_trail (EachReply false) before told sound) (none_logged (image_at before (end_of_trail before)) (free (TellsTrail before) told sound))) runs.served caused;
-      headline_alone = λ first told sound. is_headline_alone for_now its_causes script first old new history ending (runs.by_states first (opens.by_states first told sound) (none_logged first (free (TellsContents first) told sound))) runs.served caused;
+          (runs.on_trail before (opens.on_trail (EachReply false) before told sound) (ready (on_its_trail old.told Sound before told sound))) runs.served caused;
+      headline_alone = λ first told sound. is_headline_alone for_now its_causes script first old new history ending (runs.by_states first (opens.by_states first told sound) (ready (in_its_contents old.told Sound first told sound))) runs.served caused;
       served = runs.served;
       status = caused;
-      plain = λ done plain. runs_plainly script (script_is_plain script (script_is_planned read.bytes script read.grammar)) mid new history old.told opens recovered ending runs done cause;
+      plain = λ done plain. runs_plainly script (script_is_asked read.bytes script read.grammar) plain core new history old.told opens ready ending runs done cause;
       ends_with_fault = runs.ends_with_fault;
-      no_operations = runs.no_operations;
+      numbered = runs.numbered;
+      named = λ sound. runs.named (ready sound);
+      settled = λ done calm sound. runs.settled done (λ rose. calm (rose_by_before 1 old core.outside new later rose)) (ready sound);
     }
       where
-        -- afterwards no operation is logged
-        none_logged : (first : Image) → IfContents mid.told (IsRecovered first) → IfContents mid.told NoLog
-        none_logged first all = contents_weaker mid.told (IsRecovered first) NoLog (λ image r. r.no_log) all
-
-        free : (told : Told) → old.told ≡ told → IfContents told (λ first. Sound first → IfContents mid.told (λ last. IsRecovered first last))
-        free told is = subst (λ t. IfContents t (λ first. Sound first → IfContents mid.told (λ last. IsRecovered first last))) is recovered
-
         not_both : (ending : RunStatus) → is_of_commands ending ≡ true → is_of_reading ending ≡ true → ⊥
         not_both status.Done of is = absurd cc
         not_both status.Refused of is = absurd cc

@@ -3,15 +3,19 @@ use Rattle.std.proofs.Common.{◌≡◌, ℕ, zero, suc, Bool, true, false, cond
 use Rattle.std.proofs.lemmas.List.{append-nil}
 use Rattle.std.specs.Prelude.{option_map}
 use Rattle.std.specs.List.{AllByRecursion}
+use Rattle.map_ops.specs.Planning.{is_long_planned}
 use Rattle.plain_model.specs.declared.commands.Asked.{Asked}
+use Rattle.plain_model.specs.declared.commands.Command.{Command}
+use Rattle.plain_model.specs.declared.commands.Command.TheVariants as command
 use Rattle.plain_model.specs.declared.history.Entry.{Entry}
 use Rattle.plain_model.specs.Summary.{replies_of, is_fault}
 use Rattle.plain_model.specs.Headline.{script_of, answered_by, InOrder, AllAnswered}
 use Rattle.plain_model.proofs.HistoryLaws.{only_last, not_once}
-use Rattle.plain_runs.specs.PlainRuns.{IsAnswerTo, AreAnswersTo}
-use Rattle.script_shell.specs.Promises.{EndsWithFault}
+use Rattle.plain_runs.specs.PlainRuns.{is_plain, AreAnswersTo}
+use Rattle.script_shell.specs.Promises.{EndsWithFault, IsUnnumbered}
+use Rattle.script_shell.specs.Ran.{IsServedBy, AreServed}
 
-pub answers_push : (script : List Asked) (history : List Entry) (asked : Asked) (e : Entry) → AreAnswersTo script history → IsAnswerTo asked e → AreAnswersTo (script ++ asked ∷ []) (history ++ e ∷ [])
+pub answers_push : (script : List Asked) (history : List Entry) (asked : Asked) (e : Entry) → AreServed script history → IsServedBy asked e → AreServed (script ++ asked ∷ []) (history ++ e ∷ [])
 answers_push [] [] asked e all one = (one, tt)
 answers_push [] (x ∷ history) asked e all one = absurd all
 answers_push (a ∷ script) [] asked e all one = absurd all
@@ -24,7 +28,7 @@ module _ (session : ℕ) where
   both_true true = refl
   both_true false = refl
 
-  pub answered_are : (script : List Asked) (history : List Entry) → AreAnswersTo script history → answered_by session history ≡ script_of session script
+  pub answered_are : (script : List Asked) (history : List Entry) → AreServed script history → answered_by session history ≡ script_of session script
   answered_are [] [] all = refl
   answered_are [] (e ∷ history) all = absurd all
   answered_are (asked ∷ script) [] all = absurd all
@@ -44,7 +48,7 @@ module _ (session : ℕ) where
       by false more = more
 
 -- each entry has a reply
-pub never_silent : (script : List Asked) (history : List Entry) → AreAnswersTo script history → (i : ℕ) (e : Entry) → slice_get history i ≡ Some e → e.reply ≡ None → ⊥
+pub never_silent : (script : List Asked) (history : List Entry) → AreServed script history → (i : ℕ) (e : Entry) → slice_get history i ≡ Some e → e.reply ≡ None → ⊥
 never_silent [] [] all i e at silent = let no : false ≡ true = ap is_some at in absurd cc
 never_silent [] (x ∷ history) all i e at silent = absurd all
 never_silent (asked ∷ script) [] all i e at silent = absurd all
@@ -54,7 +58,7 @@ never_silent (asked ∷ script) (x ∷ history) all zero e at silent =
     let no : Some (Some all.0.answer) ≡ Some None = ap Some (sym all.0.reply) ∙ reply ∙ ap Some silent in absurd cc
 never_silent (asked ∷ script) (x ∷ history) all (suc i) e at silent = never_silent script history all.1 i e at silent
 
-module _ (script done rest : List Asked) (split : script ≡ done ++ rest) (history : List Entry) (all : AreAnswersTo done history) where
+module _ (script done rest : List Asked) (split : script ≡ done ++ rest) (history : List Entry) (all : AreServed done history) where
   front : (session : ℕ) → answered_by session history ++ script_of session rest ≡ script_of session script
   front session = ap (λ cs. cs ++ script_of session rest) (answered_are session done history all) ∙ script_splits session done rest ∙ ap (script_of session) (sym split)
 
@@ -67,13 +71,32 @@ module _ (script done rest : List Asked) (split : script ≡ done ++ rest) (hist
   pub all_answered : rest ≡ [] → AllAnswered script history
   all_answered none session = sym (append-nil (answered_by session history)) ∙ ap (λ others. answered_by session history ++ script_of session others) (sym none) ∙ front session
 
--- ---- none is an operation
+-- ---- entries of plain commands
 
-pub no_operations : (script : List Asked) (history : List Entry) → AreAnswersTo script history → AllByRecursion (λ (e : Entry). e.operation ≡ 0) history
-no_operations [] [] all = tt
-no_operations [] (e ∷ history) all = absurd all
-no_operations (asked ∷ script) [] all = absurd all
-no_operations (asked ∷ script) (e ∷ history) all = (all.0.operation, no_operations script history all.1)
+-- a plain command is no long one
+plain_is_short : (c : Command) → is_plain c ≡ true → is_long_planned c ≡ false
+plain_is_short (command.Add name low high location) plain = absurd cc
+plain_is_short (command.Addpoint name key location) plain = absurd cc
+plain_is_short c plain = refl
+
+pub answers_plain : (script : List Asked) (history : List Entry) → AreServed script history → AllByRecursion (λ (asked : Asked). is_plain asked.command ≡ true) script → AllByRecursion IsUnnumbered history → AreAnswersTo script history
+answers_plain [] [] all plain numbered = tt
+answers_plain [] (e ∷ history) all plain numbered = absurd all
+answers_plain (asked ∷ script) [] all plain numbered = absurd all
+answers_plain (asked ∷ script) (e ∷ history) all plain numbered = (
+  record { session = all.0.session; command = all.0.command; answer = all.0.answer; reply = all.0.reply; operation = numbered.0 (ap is_long_planned all.0.command ∙ plain_is_short asked.command plain.0) },
+  answers_plain script history all.1 plain.1 numbered.1,
+)
+
+-- ---- one entry more
+
+pub all_push : (P : Entry → Type 0) (history : List Entry) (e : Entry) → AllByRecursion P history → P e → AllByRecursion P (history ++ e ∷ [])
+all_push P [] e all one = (one, tt)
+all_push P (x ∷ history) e all one = (all.0, all_push P history e all.1 one)
+
+pub all_weaker : (P Q : Entry → Type 0) (history : List Entry) → ((e : Entry) → P e → Q e) → AllByRecursion P history → AllByRecursion Q history
+all_weaker P Q [] weaker all = tt
+all_weaker P Q (e ∷ history) weaker all = (weaker e all.0, all_weaker P Q history weaker all.1)
 
 -- ---- at most one `fault`, which is the last
 

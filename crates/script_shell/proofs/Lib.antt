@@ -1,7 +1,10 @@
 pub mod CallLaws
+pub mod EndLaws
 pub mod HistoryLaws
 pub mod LoopLaws
 pub mod PlainEnds
 pub mod ScriptLaws
+pub mod ServingLaws
+pub mod ToldLaws
 pub mod UnknownLaws
 pub mod WordLaws

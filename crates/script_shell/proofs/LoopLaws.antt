@@ -1,16 +1,18 @@
 -- The loop over the commands.
-use Rattle.std.proofs.Common.{◌≡◌, ◌⊎◌, inl, inr, ℕ, ◌+◌, ◌≤◌, Bool, true, false, cond, ◌||◌, nat_lt, length, List, [], ◌∷◌, ◌++◌, Option, Some, None, refl, sym, ap, ◌∙◌, subst, arith}
+use Rattle.std.proofs.Common.{◌≡◌, ◌⊎◌, inl, inr, ℕ, ◌+◌, ◌≤◌, Bool, true, false, cond, ◌||◌, ◌==◌, nat_lt, length, List, [], ◌∷◌, ◌++◌, Option, Some, None, refl, sym, ap, ◌∙◌, subst, arith}
 use Rattle.std.specs.Prelude.{IsSome}
 use Rattle.std.specs.List.{AllByRecursion}
-use Rattle.std.proofs.lemmas.List.{append_assoc, append-nil}
+use Rattle.std.proofs.lemmas.List.{append_assoc}
 use Rattle.cell_world.specs.Texts.{Text}
-use Rattle.cell_world.specs.Images.{Image, Trail, image_at, end_of_trail}
-use Rattle.cell_world.specs.Outside.{Told, TellsContents, TellsTrail, IfContents, IsLater, StoreRoseBy}
-use Rattle.cell_world.proofs.OutsideLaws.{later_same, later_then, store_rose_none, store_rose_one}
+use Rattle.cell_world.specs.Outside.{IfContents, IsLater, StoreRoseBy}
+use Rattle.cell_world.specs.declared.operations.Op.{Op}
+use Rattle.cell_world.proofs.ContentsLaws.{contents_all, contents_both, contents_weaker}
+use Rattle.cell_world.proofs.OutsideLaws.{later_same, later_then, store_rose_none}
+use Rattle.map_ops.specs.Planning.{is_long_planned}
 use Rattle.plain_model.specs.declared.commands.Asked.{Asked}
-use Rattle.plain_model.specs.declared.commands.Command.{Command}
 use Rattle.plain_model.specs.declared.finish.RunStatus.{RunStatus}
 use Rattle.plain_model.specs.declared.finish.RunStatus.TheVariants as status
+use Rattle.plain_model.specs.declared.history.Entry.{Entry}
 use Rattle.plain_model.specs.declared.replies.Reply.{Reply}
 use Rattle.plain_model.specs.declared.replies.Reply.TheVariants as reply
 use Rattle.plain_model.specs.declared.replies.Sort.{Sort}
@@ -18,49 +20,58 @@ use Rattle.plain_model.specs.declared.replies.Sort.TheVariants as sort
 use Rattle.plain_model.specs.Refusing.{if_there}
 use Rattle.plain_model.specs.Summary.{replies_of, counts_as_refused, is_fault, is_memory, sort_of}
 use Rattle.plain_model.specs.Written.{EachReply}
-use Rattle.plain_model.specs.Headline.{faults, EndsAnswered, EndsWithMemory, has_stopped, is_done, did_nothing, StatusCause}
+use Rattle.plain_model.specs.Headline.{faults, EndsAnswered, EndsWithMemory, StatusCause, has_stopped, is_done}
 use Rattle.plain_model.specs.RunSoFar.{EndsWritten}
 use Rattle.plain_model.proofs.HistoryLaws.{ends_answered, replies_push, memory_last, memory_none}
-use Rattle.plain_model.proofs.RunSoFar.{goes_on_then}
-use Rattle.plain_model.proofs.RunsAreHeadlines.{ends_on_trail, ends_by_states}
-use Rattle.session_laws.specs.Contract.{at_rest, CoreOn, CoreGoesOn, CoreTo, CoreGoesTo, KeepsCore, KeepsCoreTo}
-use Rattle.session_laws.proofs.ContractLaws.{core_has_gone_on, core_has_gone_to, core_kept, core_kept_then, core_kept_to, core_kept_to_then}
-use Rattle.manager_core.specs.Answering.{NoLog, IsCopy}
-use Rattle.manager_core.specs.Events.{IsEntered, Parts, ReadyAt, Enters, Comes, ComesAfter, stop_after}
-use Rattle.manager_core.specs.declared.manager.Event.TheVariants as event
+use Rattle.op_steps.proofs.Rises.{rose_before, rose_after}
+use Rattle.operation_laws.specs.Left.{left_of}
+use Rattle.session_laws.specs.Contract.{at_rest, KeepsCore, KeepsCoreTo}
+use Rattle.session_laws.specs.Doing.{Resting}
+use Rattle.session_laws.proofs.ContractLaws.{core_kept, core_kept_then, core_kept_to, core_kept_to_then}
+use Rattle.manager_core.specs.Cores.{Parts, IsReady, seen_of}
+use Rattle.manager_core.specs.Events.{IsEntered, IsResting, stop_after}
+use Rattle.manager_core.specs.Steady.{IsSettledOp}
 use Rattle.manager_core.specs.declared.manager.Outcome.{Outcome}
 use Rattle.manager_core.specs.declared.manager.Outcome.TheVariants.{Going, Ended, Stopped}
-use Rattle.manager_core.specs.declared.manager.StopCause.{StopCause}
 use Rattle.manager_core.specs.declared.manager.StopCause.TheVariants as cause
+use Rattle.script_shell.specs.Promises.{for_now, is_of_commands, no_causes, EndsWithFault, IsUnnumbered, IsNamed}
+use Rattle.script_shell.specs.Ran.{Ran, IsAskedAlone, AreServed, IsSettledOrLeft}
+use Rattle.script_shell.specs.Serving.{IsToSettle, Served, Serves}
 use Rattle.script_shell.specs.Stops.{stop_of, refuses}
-use Rattle.script_shell.specs.Promises.{for_now, is_of_commands, no_causes, EndsWithFault, Runs}
-use Rattle.plain_runs.specs.PlainRuns.{AreAnswersTo}
-use Rattle.script_shell.proofs.HistoryLaws.{answers_push, in_order, all_answered, no_operations, fault_last, fault_none}
-use Rattle.script_shell.proofs.ScriptLaws.{IsPlannedAsked}
+use Rattle.script_shell.proofs.HistoryLaws.{answers_push, all_push, all_weaker, fault_last, fault_none}
+use Rattle.script_shell.proofs.ToldLaws.{still_told}
 
 -- the run after some commands, none of which met a fault or want of memory
 pub record SoFar (script rest : List Asked) (old now : Parts) (refused : Bool) : Type 0 where
   pub done : List Asked
   pub split : script ≡ done ++ rest
-  pub answered : AreAnswersTo done now.history
+  pub answered : AreServed done now.history
   pub goes : now.stop ≡ None
-  pub ready : ReadyAt old → ReadyAt now
-  pub keeps : ReadyAt old → KeepsCore (EachReply false) old.outside.told (at_rest old.history) now.outside.told (at_rest now.history) []
-  pub keeps_to : ReadyAt old → KeepsCoreTo old.outside.told (at_rest old.history) now.outside.told (at_rest now.history)
+  pub resting : (session : ℕ) → IsResting (now.doing session)
+  pub ready : IsReady old → IsReady now
+  pub keeps : IsReady old → KeepsCore (EachReply false) old.outside.told (seen_of old) now.outside.told (seen_of now) []
+  pub keeps_to : IsReady old → KeepsCoreTo old.outside.told (seen_of old) now.outside.told (seen_of now)
+  pub settled : IsReady old → (StoreRoseBy 1 old.outside now.outside → ⊥) → AllByRecursion (IsSettledOrLeft now) now.history
+  pub numbered : AllByRecursion IsUnnumbered now.history
+  pub named : IsReady old → IfContents now.outside.told (λ image. AllByRecursion IsNamed now.history)
   pub later : IsLater old.outside now.outside
   pub no_fault : faults now.history ≡ 0
   pub no_memory : replies_of is_memory now.history ≡ 0
   pub some_refused : refused ≡ nat_lt 0 (replies_of counts_as_refused now.history)
 
-pub so_far_none : (script rest : List Asked) (p : Parts) → p.history ≡ [] → p.stop ≡ None → rest ≡ script → SoFar script rest p p false
-so_far_none script rest p none goes all = record {
+pub so_far_none : (script rest : List Asked) (p : Parts) → p.history ≡ [] → p.stop ≡ None → ((session : ℕ) → p.doing session ≡ Resting None) → rest ≡ script → SoFar script rest p p false
+so_far_none script rest p none goes rests all = record {
   done = [];
   split = sym all;
-  answered = subst (AreAnswersTo []) (sym none) tt;
+  answered = subst (AreServed []) (sym none) tt;
   goes = goes;
+  resting = λ session. subst IsResting (sym (rests session)) tt;
   ready = λ ready. ready;
-  keeps = λ ready. core_kept (EachReply false) p.outside.told (at_rest p.history);
-  keeps_to = λ ready. core_kept_to p.outside.told (at_rest p.history);
+  keeps = λ ready. core_kept (EachReply false) p.outside.told (seen_of p);
+  keeps_to = λ ready. core_kept_to p.outside.told (seen_of p);
+  settled = λ ready calm. subst (AllByRecursion (IsSettledOrLeft p)) (sym none) tt;
+  numbered = subst (AllByRecursion IsUnnumbered) (sym none) tt;
+  named = λ ready. contents_all p.outside.told _ (λ image. subst (AllByRecursion IsNamed) (sym none) tt);
   later = later_same p.outside;
   no_fault = subst (λ h. faults h ≡ 0) (sym none) refl;
   no_memory = subst (λ h. replies_of is_memory h ≡ 0) (sym none) refl;
@@ -72,16 +83,16 @@ pub no_length : {A : Type 0} (xs : List A) (n : ℕ) → n ≡ 0 → n ≡ lengt
 no_length [] n none is = refl
 no_length (x ∷ xs) n none is = absurd (omega (arith, none, is))
 
--- what is next and what is left is planned
-pub planned_left : (asked : Asked) (left rest : List Asked) → left ≡ asked ∷ rest → AllByRecursion IsPlannedAsked left → IsPlannedAsked asked × AllByRecursion IsPlannedAsked rest
-planned_left asked left rest next all = subst (AllByRecursion IsPlannedAsked) next all
+-- what is next and what is left may be asked
+pub asked_left : (asked : Asked) (left rest : List Asked) → left ≡ asked ∷ rest → AllByRecursion IsAskedAlone left → IsAskedAlone asked × AllByRecursion IsAskedAlone rest
+asked_left asked left rest next all = subst (AllByRecursion IsAskedAlone) next all
 
--- a core that hasn't stopped
-pub comes_running : (stop : Option StopCause) (session : ℕ) (c : Command) (old new : Parts) (outcome : Outcome) → stop ≡ None → ComesAfter stop false session (event.Ask c) old new outcome → Comes false session c old new outcome
-comes_running stop session c old new outcome goes = subst (λ s. ComesAfter s false session (event.Ask c) old new outcome) goes
+pub of_session_one : (session sessions : ℕ) → session ≡ 1 → sessions ≡ 1 → (1 ≤ session) × (session ≤ sessions)
+of_session_one session sessions is one = (omega (arith, is), omega (arith, is, one))
 
-pub of_session_one : (session sessions : ℕ) → session ≡ 1 → sessions ≡ 1 → (1 ≤ session) × (session ≤ sessions) × (sessions ≤ 16)
-of_session_one session sessions is one = (omega (arith, is), omega (arith, is, one), omega (arith, one))
+-- nobody does anything, and nothing was asked
+pub began_at_rest : (p : Parts) → p.history ≡ [] → ((session : ℕ) → p.doing session ≡ Resting None) → seen_of p ≡ at_rest []
+began_at_rest p none rests i = record { history = none i; doing = λ session. rests session i; connections = Rattle.cell_world.specs.Plain.nobody }
 
 -- ---- replies and their sorts
 
@@ -128,17 +139,28 @@ a_fault r is = absurd cc
 
 -- ---- one command more
 
-module _ (script : List Asked) (asked : Asked) (rest left : List Asked) (old mid new : Parts) (refused : Bool) (so : SoFar script left old mid refused) (next : left ≡ asked ∷ rest) where
+module _ (script : List Asked) (asked : Asked) (rest left : List Asked) (old mid new : Parts) (refused : Bool) (so : SoFar script left old mid refused) (next : left ≡ asked ∷ rest)
+    (one : asked.session ≡ 1) (later : IsLater mid.outside new.outside) where
   done_more : script ≡ (so.done ++ asked ∷ []) ++ rest
   done_more = so.split ∙ ap (λ others. so.done ++ others) next ∙ sym (append_assoc so.done (asked ∷ []) rest)
 
-  module _ (r : Reply) (written : Option Text) (unwritten : Text) (enters : Enters false asked.session asked.command r mid new written unwritten) where
-    abbrev added : IsEntered asked.session asked.command r mid.history new.history
-    added = enters.entered
+  onward : IsLater old.outside new.outside
+  onward = later_then old.outside mid.outside new.outside so.later later
 
-    answered_more : AreAnswersTo (so.done ++ asked ∷ []) new.history
-    answered_more = subst (AreAnswersTo (so.done ++ asked ∷ [])) (sym added.added)
-        (answers_push so.done mid.history asked added.entry so.answered (record { session = added.of_session; command = added.command; answer = r; reply = added.answered; operation = added.operation }))
+  module _ (r : Reply) (unwritten : Text) (served : Served asked.session asked.command r mid new unwritten) where
+    abbrev added : IsEntered asked.session asked.command r served.number mid.history new.history
+    added = served.entered
+
+    answered_more : AreServed (so.done ++ asked ∷ []) new.history
+    answered_more = subst (AreServed (so.done ++ asked ∷ [])) (sym added.added)
+        (answers_push so.done mid.history asked added.entry so.answered (record { session = added.of_session; command = added.command; answer = r; reply = added.answered }))
+
+    resting_more : (session : ℕ) → IsResting (new.doing session)
+    resting_more session = by (asked.session == session) refl
+      where
+        by : (b : Bool) → (asked.session == session) ≡ b → IsResting (new.doing session)
+        by true is = let same : asked.session ≡ session = grind (arith, is) in subst (λ n. IsResting (new.doing n)) same (subst IsResting (sym served.rests.here) tt)
+        by false is = subst IsResting (sym (served.rests.others session (λ same. absurd (grind (arith, is, same))))) (so.resting session)
 
     count_more : (sort : Reply → Bool) → replies_of sort new.history ≡ replies_of sort mid.history + cond (sort r) 1 0
     count_more sort = ap (replies_of sort) added.added ∙ replies_push sort mid.history added.entry ∙ ap (λ x. replies_of sort mid.history + cond (if_there sort x) 1 0) added.answered
@@ -159,16 +181,47 @@ module _ (script : List Asked) (asked : Asked) (rest left : List Asked) (old mid
         none_and : (n : ℕ) → 0 + n ≡ n
         none_and n = omega arith
 
-    keeps_more : ReadyAt old → KeepsCore (EachReply false) old.outside.told (at_rest old.history) new.outside.told (at_rest new.history) unwritten
-    keeps_more ready = core_kept_then (EachReply false) old.outside.told mid.outside.told new.outside.told (at_rest old.history) (at_rest mid.history) (at_rest new.history) unwritten (so.keeps ready) (enters.keeps (so.ready ready))
+    keeps_more : IsReady old → KeepsCore (EachReply false) old.outside.told (seen_of old) new.outside.told (seen_of new) unwritten
+    keeps_more ready = core_kept_then (EachReply false) old.outside.told mid.outside.told new.outside.told (seen_of old) (seen_of mid) (seen_of new) unwritten (so.keeps ready) (served.keeps (so.ready ready))
 
-    keeps_to_more : ReadyAt old → KeepsCoreTo old.outside.told (at_rest old.history) new.outside.told (at_rest new.history)
-    keeps_to_more ready = core_kept_to_then old.outside.told mid.outside.told new.outside.told (at_rest old.history) (at_rest mid.history) (at_rest new.history) (so.keeps_to ready) (enters.keeps_to (so.ready ready))
+    keeps_to_more : IsReady old → KeepsCoreTo old.outside.told (seen_of old) new.outside.told (seen_of new)
+    keeps_to_more ready = core_kept_to_then old.outside.told mid.outside.told new.outside.told (seen_of old) (seen_of mid) (seen_of new) (so.keeps_to ready) (served.keeps_to (so.ready ready))
+
+    some_is : (a b : Reply) → Some a ≡ Some b → a ≡ b
+    some_is a b is = cc
+
+    -- what earlier commands left is settled by now, and this one's operation is to be settled
+    settled_more : (r ≡ reply.Memory → ⊥) → IsReady old → (StoreRoseBy 1 old.outside new.outside → ⊥) → AllByRecursion (IsSettledOrLeft new) new.history
+    settled_more enough ready calm = subst (AllByRecursion (IsSettledOrLeft new)) (sym added.added) (all_push (IsSettledOrLeft new) mid.history added.entry
+        (all_weaker (IsSettledOrLeft mid) (IsSettledOrLeft new) mid.history earlier (so.settled ready (λ rose. calm (rose_before old.outside mid.outside new.outside rose later so.later)))) last)
+      where
+        settled_now : (op : Op) → IfContents mid.outside.told (IsSettledOp op) ⊎ (left_of (mid.doing 1) ≡ Some op) → IfContents new.outside.told (IsSettledOp op)
+        settled_now op (inl settled) = served.settled (so.ready ready) op settled
+        settled_now op (inr here) = served.settles (so.ready ready) op (subst (λ n. left_of (mid.doing n) ≡ Some op) (sym one) here) enough (λ rose. calm (rose_after old.outside mid.outside new.outside so.later rose))
+
+        earlier : (e : Entry) → IsSettledOrLeft mid e → IsSettledOrLeft new e
+        earlier e held ok number = let it = held ok number in (it.0, it.1, inl (settled_now it.0 it.2))
+
+        to_settle : (served.number ≡ 0) ⊎ IsToSettle served.number served.left → (added.entry.operation ≡ 0 → ⊥)
+            → (op : Op) × (op.number ≡ added.entry.operation) × (IfContents new.outside.told (IsSettledOp op) ⊎ (left_of (new.doing 1) ≡ Some op))
+        to_settle (inl none) number = absurd (number (added.operation ∙ none))
+        to_settle (inr (op, named, here)) number = (op, named ∙ sym added.operation, inr (subst (λ n. left_of (new.doing n) ≡ Some op) one (ap left_of served.rests.here ∙ here)))
+
+        last : IsSettledOrLeft new added.entry
+        last ok number = to_settle (served.to_settle (so.ready ready) (some_is r reply.Ok (sym added.answered ∙ ok))) number
+
+    numbered_more : AllByRecursion IsUnnumbered new.history
+    numbered_more = subst (AllByRecursion IsUnnumbered) (sym added.added) (all_push IsUnnumbered mid.history added.entry so.numbered
+        (λ short. added.operation ∙ served.short (ap is_long_planned (sym added.command) ∙ short)))
+
+    named_more : IsReady old → IfContents new.outside.told (λ image. AllByRecursion IsNamed new.history)
+    named_more ready = contents_weaker new.outside.told _ _ (λ image both. subst (AllByRecursion IsNamed) (sym added.added) (all_push IsNamed mid.history added.entry both.0
+        (λ long ok none. (both.1 (ap is_long_planned (sym added.command) ∙ long) (some_is r reply.Ok (sym added.answered ∙ ok))).0 (sym added.operation ∙ none))))
+        (contents_both new.outside.told _ _ (still_told mid.outside new.outside (served.settled (so.ready ready)) _ (so.named ready)) (served.named (so.ready ready)))
 
   -- the run goes on after a reply that is no fault and no want of memory
-  pub so_far_more : (outcome : Outcome) → stop_of outcome ≡ None → Comes false asked.session asked.command mid new outcome → (ReadyAt mid → ReadyAt new) → IsLater mid.outside new.outside
-      → SoFar script rest old new (refused || refuses outcome)
-  so_far_more outcome goes comes ready later = by outcome goes comes
+  pub so_far_more : (outcome : Outcome) → stop_of outcome ≡ None → Serves asked.session asked.command mid new outcome → SoFar script rest old new (refused || refuses outcome)
+  so_far_more outcome goes serves = by outcome goes serves
     where
       or_is : (a b : Bool) (n : ℕ) → a ≡ nat_lt 0 n → (a || b) ≡ nat_lt 0 (n + cond b 1 0)
       or_is true b n is = grind (arith, is)
@@ -182,7 +235,7 @@ module _ (script : List Asked) (asked : Asked) (rest left : List Asked) (old mid
       no_stop reply.Memory f m = absurd cc
       no_stop r f m = refl
 
-      more : (s : Sort) (no_fault : fault_sort s ≡ false) (no_memory : memory_sort s ≡ false) → Comes false asked.session asked.command mid new (Ended s) → SoFar script rest old new (refused || refused_sort s)
+      more : (s : Sort) (no_fault : fault_sort s ≡ false) (no_memory : memory_sort s ≡ false) → Serves asked.session asked.command mid new (Ended s) → SoFar script rest old new (refused || refused_sort s)
       more s no_fault no_memory c =
           let r = c.0 in
           let clear : is_fault r ≡ false = fault_by_sort r ∙ ap fault_sort (sym c.1) ∙ no_fault in
@@ -190,19 +243,26 @@ module _ (script : List Asked) (asked : Asked) (rest left : List Asked) (old mid
           record {
             done = so.done ++ asked ∷ [];
             split = done_more;
-            answered = answered_more r _ [] c.3;
+            answered = answered_more r [] c.3;
             goes = c.2 ∙ no_stop r (ap fault_sort (sym c.1) ∙ no_fault) (ap memory_sort (sym c.1) ∙ no_memory);
-            ready = λ begun. ready (so.ready begun);
-            keeps = keeps_more r _ [] c.3;
-            keeps_to = keeps_to_more r _ [] c.3;
-            later = later_then old.outside mid.outside new.outside so.later later;
-            no_fault = count_more r _ [] c.3 is_fault ∙ (λ i. so.no_fault i + cond (clear i) 1 0);
-            no_memory = count_more r _ [] c.3 is_memory ∙ (λ i. so.no_memory i + cond (enough i) 1 0);
+            resting = resting_more r [] c.3;
+            ready = λ ready. c.3.ready (so.ready ready);
+            keeps = keeps_more r [] c.3;
+            keeps_to = keeps_to_more r [] c.3;
+            settled = settled_more r [] c.3 (λ is. not_so is_memory r reply.Memory is refl enough);
+            numbered = numbered_more r [] c.3;
+            named = named_more r [] c.3;
+            later = onward;
+            no_fault = count_more r [] c.3 is_fault ∙ (λ i. so.no_fault i + cond (clear i) 1 0);
+            no_memory = count_more r [] c.3 is_memory ∙ (λ i. so.no_memory i + cond (enough i) 1 0);
             some_refused = or_is refused (refused_sort s) (replies_of counts_as_refused mid.history) so.some_refused
-                ∙ ap (λ b. nat_lt 0 (replies_of counts_as_refused mid.history + cond b 1 0)) (sym (refused_by_sort r ∙ ap refused_sort (sym c.1))) ∙ ap (nat_lt 0) (sym (count_more r _ [] c.3 counts_as_refused));
+                ∙ ap (λ b. nat_lt 0 (replies_of counts_as_refused mid.history + cond b 1 0)) (sym (refused_by_sort r ∙ ap refused_sort (sym c.1))) ∙ ap (nat_lt 0) (sym (count_more r [] c.3 counts_as_refused));
           }
+        where
+          not_so : (sort : Reply → Bool) (r x : Reply) → r ≡ x → sort x ≡ true → sort r ≡ false → ⊥
+          not_so sort r x is so_it isnt = let both : true ≡ false = sym so_it ∙ ap sort (sym is) ∙ isnt in absurd cc
 
-      by : (outcome : Outcome) → stop_of outcome ≡ None → Comes false asked.session asked.command mid new outcome → SoFar script rest old new (refused || refuses outcome)
+      by : (outcome : Outcome) → stop_of outcome ≡ None → Serves asked.session asked.command mid new outcome → SoFar script rest old new (refused || refuses outcome)
       by (Ended sort.Good) goes c = more sort.Good refl refl c
       by (Ended sort.Refused) goes c = more sort.Refused refl refl c
       by (Ended sort.Fault) goes c = absurd cc
@@ -212,139 +272,107 @@ module _ (script : List Asked) (asked : Asked) (rest left : List Asked) (old mid
       by (Stopped cause.Memory) goes c = absurd cc
       by (Stopped cause.Store) goes c = absurd c
 
--- ---- the end
+  -- ---- the run stopped after a command
 
--- what holds where the contents are told is so at the end of a trail
-pub on_its_trail : (told : Told) (P : Image → Type 0) (trail : Trail) → told ≡ TellsTrail trail → P (image_at trail (end_of_trail trail)) → IfContents told P
-on_its_trail told P trail is p = subst (λ t. IfContents t P) (sym is) p
+  pub ends_stopped : (outcome : Outcome) (ending : RunStatus) → stop_of outcome ≡ Some ending → Serves asked.session asked.command mid new outcome → Ran script old new ending
+  ends_stopped outcome ending is serves = by outcome is serves
+    where
+      -- an entry was added, with all lines written or a rest
+      entered : (r : Reply) (unwritten : Text) (ending : RunStatus) → Served asked.session asked.command r mid new unwritten → (unwritten ≡ []) ⊎ (has_stopped ending ≡ true) → is_done ending ≡ false
+          → is_of_commands ending ≡ true → StatusCause for_now no_causes old.outside new.outside new.history ending → Ran script old new ending
+      entered r unwritten ending served written not_done of caused = record {
+        done = so.done ++ asked ∷ [];
+        rest = rest;
+        split = done_more;
+        answered = answered_more r unwritten served;
+        all = λ done. absurd (undone done);
+        unwritten = unwritten;
+        written = ends written;
+        resting = resting_more r unwritten served;
+        ready = λ ready. served.ready (so.ready ready);
+        keeps = keeps_more r unwritten served;
+        keeps_to = keeps_to_more r unwritten served;
+        settled = λ done. absurd (undone done);
+        numbered = numbered_more r unwritten served;
+        named = named_more r unwritten served;
+        cause = caused;
+        of_commands = of;
+        few_faults = few (is_fault r) refl;
+        ends_with_memory = memory_more r unwritten served;
+        ends_with_fault = fault_more r unwritten served;
+        later = onward;
+      }
+        where
+          undone : is_done ending ≡ true → ⊥
+          undone done = let no : true ≡ false = sym done ∙ not_done in absurd cc
 
-pub in_its_contents : (told : Told) (P : Image → Type 0) (image : Image) → told ≡ TellsContents image → P image → IfContents told P
-in_its_contents told P image is p = subst (λ t. IfContents t P) (sym is) p
+          ends : (unwritten ≡ []) ⊎ (has_stopped ending ≡ true) → EndsWritten unwritten ending new.history
+          ends (inl nothing) = inl nothing
+          ends (inr stops) = inr (stops, ends_more r unwritten served)
 
--- what makes the promises of a run
-finished : (script done rest : List Asked) (old new : Parts) (unwritten : Text) (ending : RunStatus) → old.history ≡ [] → old.stop ≡ None → IsCopy old.known old.outside.told → script ≡ done ++ rest → AreAnswersTo done new.history
-    → (ReadyAt old → KeepsCore (EachReply false) old.outside.told (at_rest old.history) new.outside.told (at_rest new.history) unwritten) → EndsWritten unwritten ending new.history
-    → (ReadyAt old → KeepsCoreTo old.outside.told (at_rest old.history) new.outside.told (at_rest new.history)) → IsLater old.outside new.outside
-    → (is_done ending ≡ true → rest ≡ []) → StoreRoseBy (faults new.history) old.outside new.outside → EndsWithMemory new.history → EndsWithFault new.history → did_nothing ending ≡ false → Runs script old.outside new.outside new.history ending
-finished script done rest old new unwritten ending none goes copy split answered keeps written keeps_to later all few memory fault did = record {
-  on_trail = λ before gone no_log. ends_on_trail false (for_now.stops ending) script new.outside.told (Rattle.session_laws.specs.Contract.course_of (at_rest new.history)) unwritten ending before
-      (core_has_gone_on (EachReply false) (end_of_trail before) (image_at before (end_of_trail before)) before new.outside.told (at_rest new.history) unwritten (on_from before gone no_log))
-      (λ session. record { none = λ goes. refl; next = tt }) written;
-  by_states = λ first gone no_log. ends_by_states (for_now.stops ending) script first new.outside.told (Rattle.session_laws.specs.Contract.course_of (at_rest new.history))
-      (core_has_gone_to first new.outside.told (at_rest new.history)
-      (keeps_to (ready no_log) first gone.image gone.told (subst (λ h. CoreTo first gone.image (at_rest h)) (sym none) gone.core)))
-      (λ session. record { none = λ goes. refl; next = tt });
-  served = record {
-    in_order = in_order script done rest split new.history answered (for_now.stops ending);
-    all = λ is. all_answered script done rest split new.history answered (all is);
-    all_after_fault = λ goes failed. let both : (has_stopped ending || true) ≡ false = sym (ap (λ b. has_stopped ending || b) failed) ∙ goes in absurd (or_true (has_stopped ending) both);
-  };
-  kept = record {
-    few_faults = few;
-    ends_with_memory = memory;
-    nothing = λ is. let no : true ≡ false = sym is ∙ did in absurd cc;
-    unchanged = λ is. let no : true ≡ false = sym is ∙ did in absurd cc;
-  };
-  ends_with_fault = fault;
-  no_operations = no_operations done new.history answered;
-  answers = λ is. subst (λ asked. AreAnswersTo asked new.history) (sym (split ∙ ap (λ others. done ++ others) (all is) ∙ append-nil done)) answered;
-  later = later;
-}
+          is_one : (r : Reply) → is_fault r ≡ true → r ≡ reply.Fault
+          is_one reply.Fault is = refl
+          is_one r is = absurd cc
+
+          few : (b : Bool) → is_fault r ≡ b → StoreRoseBy (faults new.history) old.outside new.outside
+          few true fault = subst (λ n. StoreRoseBy n old.outside new.outside) (sym (faults_more r unwritten served ∙ ap (λ b. cond b 1 0) fault)) (rose_after old.outside mid.outside new.outside so.later (served.fault (is_one r fault)))
+          few false fault = subst (λ n. StoreRoseBy n old.outside new.outside) (sym (faults_more r unwritten served ∙ ap (λ b. cond b 1 0) fault)) (store_rose_none old.outside new.outside onward.faults)
+
+      -- the status by the outcome
+      is_ending : (found : RunStatus) → Some found ≡ Some ending → found ≡ ending
+      is_ending found e = ap (unwrap_or_else found) e
+        where
+          unwrap_or_else : RunStatus → Option RunStatus → RunStatus
+          unwrap_or_else other None = other
+          unwrap_or_else other (Some it) = it
+
+      by_fault : Serves asked.session asked.command mid new (Ended sort.Fault) → Ran script old new status.StoreFault
+      by_fault c =
+          let fault : c.0 ≡ reply.Fault = a_fault c.0 (sym c.1) in
+          let single : faults new.history ≡ 1 = faults_more c.0 [] c.3 ∙ ap (λ r. cond (is_fault r) 1 0) fault in
+          let enough : replies_of is_memory new.history ≡ 0 = count_more c.0 [] c.3 is_memory ∙ (λ i. so.no_memory i + cond (is_memory (fault i)) 1 0) in
+          entered c.0 [] status.StoreFault c.3 (inl refl) refl refl (rose_after old.outside mid.outside new.outside so.later (c.3.fault fault), inl (omega (arith, single)), enough)
+
+      by : (outcome : Outcome) → stop_of outcome ≡ Some ending → Serves asked.session asked.command mid new outcome → Ran script old new ending
+      by (Ended sort.Good) is c = absurd cc
+      by (Ended sort.Refused) is c = absurd cc
+      by (Ended sort.Fault) is c = subst (Ran script old new) (is_ending status.StoreFault is) (by_fault c)
+      by (Ended sort.Memory) is c = subst (Ran script old new) (is_ending status.Memory is) (entered c.0 [] status.Memory c.3 (inl refl) refl refl tt)
+      by (Going number) is c = absurd c
+      by (Stopped cause.Sink) is c = subst (Ran script old new) (is_ending status.WriteFault is)
+          (entered c.0 c.2.0 status.WriteFault c.2.1 (inr refl) refl refl (omega (arith, so.later.sink, c.1), ends_more c.0 c.2.0 c.2.1))
+      by (Stopped cause.Memory) is c = subst (Ran script old new) (is_ending status.Memory is) (entered c.0 c.1.0 status.Memory c.1.1 (inr refl) refl refl tt)
+      by (Stopped cause.Store) is c = absurd c
+
+-- ---- all commands were asked
+
+pub ends_all : (script rest : List Asked) (old now : Parts) (refused : Bool) (ending : RunStatus) → SoFar script rest old now refused → rest ≡ [] → ending ≡ cond refused status.Refused status.Done → Ran script old now ending
+ends_all script rest old now refused ending so none is = subst (Ran script old now) (sym is) (by refused so.some_refused)
   where
-    ready : IfContents old.outside.told NoLog → ReadyAt old
-    ready no_log = record { no_log = no_log; copy = λ on. copy }
+    ran : (ending : RunStatus) → is_of_commands ending ≡ true → StatusCause for_now no_causes old.outside now.outside now.history ending → Ran script old now ending
+    ran ending of caused = record {
+      done = so.done;
+      rest = rest;
+      split = so.split;
+      answered = so.answered;
+      all = λ done. none;
+      unwritten = [];
+      written = inl refl;
+      resting = so.resting;
+      ready = so.ready;
+      keeps = so.keeps;
+      keeps_to = so.keeps_to;
+      settled = λ done. so.settled;
+      numbered = so.numbered;
+      named = so.named;
+      cause = caused;
+      of_commands = of;
+      few_faults = subst (λ n. StoreRoseBy n old.outside now.outside) (sym so.no_fault) (store_rose_none old.outside now.outside so.later.faults);
+      ends_with_memory = memory_none now.history so.no_memory;
+      ends_with_fault = fault_none now.history so.no_fault;
+      later = so.later;
+    }
 
-    -- the commands after the opening
-    on_from : (before : Trail) → CoreGoesOn (EachReply false) (end_of_trail before) (image_at before (end_of_trail before)) before old.outside.told (at_rest []) [] → IfContents old.outside.told NoLog
-        → CoreGoesOn (EachReply false) (end_of_trail before) (image_at before (end_of_trail before)) before new.outside.told (at_rest new.history) unwritten
-    on_from before gone no_log =
-        let all = keeps (ready no_log) (end_of_trail before) (image_at before (end_of_trail before)) gone.trail gone.told
-        (subst (λ h. CoreOn (EachReply false) (end_of_trail before) (image_at before (end_of_trail before)) gone.trail (at_rest h) []) (sym none) gone.core) in
-        record { trail = all.trail; told = all.told; goes_on = goes_on_then before gone.trail all.trail gone.goes_on all.goes_on; core = all.core }
-
-    or_true : (b : Bool) → (b || true) ≡ false → ⊥
-    or_true true is = absurd cc
-    or_true false is = absurd cc
-
--- what a whole run comes to
-abbrev pub Ends : List Asked → Parts → Parts → RunStatus → Type 0
-Ends script old new ending = Runs script old.outside new.outside new.history ending × StatusCause for_now no_causes old.outside new.outside new.history ending × (is_of_commands ending ≡ true)
-
--- all commands were asked
-pub ends_all : (script rest : List Asked) (old now : Parts) (refused : Bool) (ending : RunStatus) → old.history ≡ [] → old.stop ≡ None → IsCopy old.known old.outside.told → SoFar script rest old now refused → rest ≡ []
-    → ending ≡ cond refused status.Refused status.Done → Ends script old now ending
-ends_all script rest old now refused ending none goes copy so all is = subst (Ends script old now) (sym is) (by refused so.some_refused)
-  where
-    few : StoreRoseBy (faults now.history) old.outside now.outside
-    few = subst (λ n. StoreRoseBy n old.outside now.outside) (sym so.no_fault) (store_rose_none old.outside now.outside so.later.faults)
-
-    runs : (ending : RunStatus) → did_nothing ending ≡ false → Runs script old.outside now.outside now.history ending
-    runs ending did = finished script so.done rest old now [] ending none goes copy so.split so.answered so.keeps (inl refl) so.keeps_to so.later (λ done. all) few (memory_none now.history so.no_memory) (fault_none now.history so.no_fault) did
-
-    by : (b : Bool) → b ≡ nat_lt 0 (replies_of counts_as_refused now.history) → Ends script old now (cond b status.Refused status.Done)
-    by true some = (runs status.Refused refl, (grind (arith, some), so.no_fault, so.no_memory), refl)
-    by false some = (runs status.Done refl, (grind (arith, some), so.no_fault, so.no_memory), refl)
-
--- the run stopped after a command
-pub ends_stopped : (script : List Asked) (asked : Asked) (rest left : List Asked) (old mid new : Parts) (refused : Bool) → old.history ≡ [] → old.stop ≡ None → IsCopy old.known old.outside.told → SoFar script left old mid refused
-    → left ≡ asked ∷ rest → (outcome : Outcome) (ending : RunStatus) → stop_of outcome ≡ Some ending → Comes false asked.session asked.command mid new outcome → IsLater mid.outside new.outside → Ends script old new ending
-ends_stopped script asked rest left old mid new refused none goes copy so next outcome ending is comes later = by outcome is comes
-  where
-    onward : IsLater old.outside new.outside
-    onward = later_then old.outside mid.outside new.outside so.later later
-
-    -- an entry was added, with all lines written or a rest
-    entered : (r : Reply) (written : Option Text) (unwritten : Text) (ending : RunStatus) → Enters false asked.session asked.command r mid new written unwritten
-        → (unwritten ≡ []) ⊎ (has_stopped ending ≡ true) → is_done ending ≡ false → did_nothing ending ≡ false → Runs script old.outside new.outside new.history ending
-    entered r some unwritten ending enters written not_done did =
-        finished script (so.done ++ asked ∷ []) rest old new unwritten ending none goes copy (done_more script asked rest left old mid new refused so next)
-        (answered_more script asked rest left old mid new refused so next r some unwritten enters)
-        (keeps_more script asked rest left old mid new refused so next r some unwritten enters) (ends written)
-        (keeps_to_more script asked rest left old mid new refused so next r some unwritten enters) onward
-        (λ done. let no : true ≡ false = sym done ∙ not_done in absurd cc) (few (is_fault r) refl)
-        (memory_more script asked rest left old mid new refused so next r some unwritten enters)
-        (fault_more script asked rest left old mid new refused so next r some unwritten enters) did
-      where
-        ends : (unwritten ≡ []) ⊎ (has_stopped ending ≡ true) → EndsWritten unwritten ending new.history
-        ends (inl nothing) = inl nothing
-        ends (inr stops) = inr (stops, ends_more script asked rest left old mid new refused so next r some unwritten enters)
-
-        counted : faults new.history ≡ cond (is_fault r) 1 0
-        counted = faults_more script asked rest left old mid new refused so next r some unwritten enters
-
-        is_one : (r : Reply) → is_fault r ≡ true → r ≡ reply.Fault
-        is_one reply.Fault is = refl
-        is_one r is = absurd cc
-
-        few : (b : Bool) → is_fault r ≡ b → StoreRoseBy (faults new.history) old.outside new.outside
-        few true fault = subst (λ n. StoreRoseBy n old.outside new.outside) (sym (counted ∙ ap (λ b. cond b 1 0) fault)) (store_rose_one old.outside new.outside onward.faults (omega (arith, so.later.faults 0, enters.fault (is_one r fault))))
-        few false fault = subst (λ n. StoreRoseBy n old.outside new.outside) (sym (counted ∙ ap (λ b. cond b 1 0) fault)) (store_rose_none old.outside new.outside onward.faults)
-
-    -- the status by the outcome
-    is_ending : (found : RunStatus) → Some found ≡ Some ending → found ≡ ending
-    is_ending found e = ap (unwrap_or_else found) e
-      where
-        unwrap_or_else : RunStatus → Option RunStatus → RunStatus
-        unwrap_or_else other None = other
-        unwrap_or_else other (Some it) = it
-
-    by_fault : Comes false asked.session asked.command mid new (Ended sort.Fault) → Ends script old new status.StoreFault
-    by_fault c =
-        let fault : c.0 ≡ reply.Fault = a_fault c.0 (sym c.1) in
-        let one : faults new.history ≡ 1 = faults_more script asked rest left old mid new refused so next c.0 _ [] c.3 ∙ ap (λ r. cond (is_fault r) 1 0) fault in
-        let enough : replies_of is_memory new.history ≡ 0 = count_more script asked rest left old mid new refused so next c.0 _ [] c.3 is_memory ∙ (λ i. so.no_memory i + cond (is_memory (fault i)) 1 0) in (
-          entered c.0 _ [] status.StoreFault c.3 (inl refl) refl refl,
-          (store_rose_one old.outside new.outside onward.faults (omega (arith, so.later.faults 0, c.3.fault fault)), inl (omega (arith, one)), enough),
-          refl,
-        )
-
-    by : (outcome : Outcome) → stop_of outcome ≡ Some ending → Comes false asked.session asked.command mid new outcome → Ends script old new ending
-    by (Ended sort.Good) is c = absurd cc
-    by (Ended sort.Refused) is c = absurd cc
-    by (Ended sort.Fault) is c = subst (Ends script old new) (is_ending status.StoreFault is) (by_fault c)
-    by (Ended sort.Memory) is c = subst (Ends script old new) (is_ending status.Memory is) (entered c.0 _ [] status.Memory c.3 (inl refl) refl refl, tt, refl)
-    by (Going number) is c = absurd c
-    by (Stopped cause.Sink) is c = subst (Ends script old new) (is_ending status.WriteFault is)
-        (entered c.0 _ c.3.1 status.WriteFault c.3.2 (inr refl) refl refl, (omega (arith, so.later.sink, c.2), ends_more script asked rest left old mid new refused so next c.0 _ c.3.1 c.3.2), refl)
-    by (Stopped cause.Memory) is c = subst (Ends script old new) (is_ending status.Memory is) (entered c.0 _ _ status.Memory c.2 (inr refl) refl refl, tt, refl)
-    by (Stopped cause.Store) is c = absurd c
+    by : (b : Bool) → b ≡ nat_lt 0 (replies_of counts_as_refused now.history) → Ran script old now (cond b status.Refused status.Done)
+    by true some = ran status.Refused refl (grind (arith, some), so.no_fault, so.no_memory)
+    by false some = ran status.Done refl (grind (arith, some), so.no_fault, so.no_memory)

@@ -1,25 +1,23 @@
--- What a script asks is planned, and of session 1.
-use Rattle.std.proofs.Common.{◌≡◌, ◌⊎◌, inl, inr, Bool, true, false, ◌&&◌, List, [], ◌∷◌, None, refl, sym, ap, ◌∙◌}
+-- What a script asks may be asked, by session 1.
+use Rattle.std.proofs.Common.{◌≡◌, inl, inr, Bool, true, false, ◌&&◌, List, [], ◌∷◌, None, refl, sym, ap, ◌∙◌}
 use Rattle.std.specs.List.{AllByRecursion, list_all}
 use Rattle.cell_world.specs.Texts.{Text}
 use Rattle.cell_world.specs.Lists.{IsOneOf}
 use Rattle.cell_world.specs.declared.cells.MapKind.TheVariants.{Range}
 use Rattle.cell_world.specs.declared.cells.KeyType.TheVariants.{Int}
-use Rattle.map_ops.specs.Planning.{is_planned}
-use Rattle.map_ops.proofs.PlannedLaws.{planned_is_short}
+use Rattle.map_ops.specs.Planning.{is_asked}
 use Rattle.plain_model.specs.declared.commands.Asked.{Asked}
 use Rattle.plain_model.specs.declared.commands.Command.{Command}
 use Rattle.plain_model.specs.declared.commands.Command.TheVariants as command
 use Rattle.plain_model.specs.declared.commands.HighText.TheVariants.{Max}
 use Rattle.plain_model.specs.declared.commands.Side.TheVariants as side
-use Rattle.plain_runs.proofs.PlainHeadlines.{IsPlainAsked}
-use Rattle.plain_runs.proofs.PlainLaws.{short_is_plain}
 use Rattle.script_lang.specs.declared.programs.Program.TheVariants.{Ctl}
 use Rattle.script_lang.specs.declared.verbs.Verb.{Verb}
 use Rattle.script_lang.specs.declared.verbs.Verb.TheVariants as verb
 use Rattle.script_lang.specs.Commands.{verb_of}
 use Rattle.script_lang.specs.Scripts.{built, IsScript}
 use Rattle.script_lang.proofs.WholeScripts.{IsInForce, script_is_in_force}
+use Rattle.script_shell.specs.Ran.{IsAskedAlone}
 
 -- a command of each verb
 abbrev example_of : Verb → Command
@@ -57,39 +55,31 @@ example_of verb.Job = command.Job [] [] Max [] 0
 example_of verb.Step = command.Step 0
 example_of verb.Run = command.Run 0
 
--- Whether a command is planned is told by its verb.
-planned_by_verb : (c : Command) → is_planned c ≡ is_planned (example_of (verb_of c))
-planned_by_verb (command.Map name kind type) = refl
-planned_by_verb c = refl
+-- Whether a command may be asked is told by its verb.
+asked_by_verb : (c : Command) → is_asked c ≡ is_asked (example_of (verb_of c))
+asked_by_verb (command.Map name kind type) = refl
+asked_by_verb c = refl
 
--- those that are built are planned
-among_planned : (vs : List Verb) → list_all (λ v. is_planned (example_of v)) vs ≡ true → (v : Verb) → IsOneOf vs v → is_planned (example_of v) ≡ true
-among_planned [] all v is = absurd is
-among_planned (w ∷ vs) all v (inl here) = ap (λ x. is_planned (example_of x)) (sym here) ∙ first (is_planned (example_of w)) (list_all (λ x. is_planned (example_of x)) vs) all
+-- those that are built may be asked
+asked_among : (vs : List Verb) → list_all (λ v. is_asked (example_of v)) vs ≡ true → (v : Verb) → IsOneOf vs v → is_asked (example_of v) ≡ true
+asked_among [] all v is = absurd is
+asked_among (w ∷ vs) all v (inl here) = ap (λ x. is_asked (example_of x)) (sym here) ∙ first (is_asked (example_of w)) (list_all (λ x. is_asked (example_of x)) vs) all
   where
     first : (a b : Bool) → (a && b) ≡ true → a ≡ true
     first true b is = refl
     first false b is = absurd cc
-among_planned (w ∷ vs) all v (inr there) = among_planned vs (others (is_planned (example_of w)) (list_all (λ x. is_planned (example_of x)) vs) all) v there
+asked_among (w ∷ vs) all v (inr there) = asked_among vs (others (is_asked (example_of w)) (list_all (λ x. is_asked (example_of x)) vs) all) v there
   where
     others : (a b : Bool) → (a && b) ≡ true → b ≡ true
     others true b is = is
     others false b is = absurd cc
 
-built_planned : (v : Verb) → IsOneOf built v → is_planned (example_of v) ≡ true
-built_planned = among_planned built refl
+built_asked : (v : Verb) → IsOneOf built v → is_asked (example_of v) ≡ true
+built_asked = asked_among built refl
 
-abbrev pub IsPlannedAsked : Asked → Type 0
-IsPlannedAsked asked = (is_planned asked.command ≡ true) × (asked.session ≡ 1)
+all_asked : (script : List Asked) → AllByRecursion (IsInForce built) script → AllByRecursion IsAskedAlone script
+all_asked [] all = tt
+all_asked (asked ∷ script) all = ((asked_by_verb asked.command ∙ built_asked (verb_of asked.command) all.0.0, all.0.1), all_asked script all.1)
 
-asked_planned : (script : List Asked) → AllByRecursion (IsInForce built) script → AllByRecursion IsPlannedAsked script
-asked_planned [] all = tt
-asked_planned (asked ∷ script) all = ((planned_by_verb asked.command ∙ built_planned (verb_of asked.command) all.0.0, all.0.1), asked_planned script all.1)
-
-pub script_is_planned : (bytes : Text) (script : List Asked) → IsScript Ctl built bytes script → AllByRecursion IsPlannedAsked script
-script_is_planned bytes script is = asked_planned script (script_is_in_force built bytes script is)
-
--- so it is plain
-pub script_is_plain : (script : List Asked) → AllByRecursion IsPlannedAsked script → AllByRecursion IsPlainAsked script
-script_is_plain [] all = tt
-script_is_plain (asked ∷ script) all = ((short_is_plain asked.command (planned_is_short asked.command all.0.0), all.0.1), script_is_plain script all.1)
+pub script_is_asked : (bytes : Text) (script : List Asked) → IsScript Ctl built bytes script → AllByRecursion IsAskedAlone script
+script_is_asked bytes script is = all_asked script (script_is_in_force built bytes script is)

@@ -1,16 +1,19 @@
 -- What a whole run of a script promises.
-use Rattle.std.specs.Prelude.{◌≡◌, ◌≢◌, ◌⊎◌, ℕ, ◌≤◌, ◌<◌, Bool, true, false, ◌||◌, List, [], ◌∷◌, length, Option, Some, option_map}
+use Rattle.std.specs.Prelude.{◌≡◌, ◌⊎◌, ℕ, ◌≤◌, ◌<◌, Bool, true, false, ◌||◌, List, [], ◌∷◌, length, Option, Some, option_map}
 use Rattle.std.specs.Bool.{MatchBool}
 use Rattle.std.specs.List.{AllByRecursion}
 use Rattle.cell_world.specs.Texts.{Text}
 use Rattle.cell_world.specs.Counts.{Rose}
 use Rattle.cell_world.specs.Images.{Image, Trail, image_at, end_of_trail}
 use Rattle.cell_world.specs.Sound.{Sound}
-use Rattle.cell_world.specs.Outside.{Outside, TellsContents, TellsTrail, IfContents, IsLater, StoreRoseBy}
+use Rattle.cell_world.specs.Outside.{Outside, Told, TellsContents, TellsTrail, IfContents, IsLater, StoreRoseBy}
+use Rattle.cell_world.specs.declared.operations.Op.{Op}
+use Rattle.map_ops.specs.Planning.{is_long_planned}
 use Rattle.plain_model.specs.declared.commands.Asked.{Asked}
 use Rattle.plain_model.specs.declared.finish.RunStatus.{RunStatus}
 use Rattle.plain_model.specs.declared.finish.RunStatus.TheVariants as status
 use Rattle.plain_model.specs.declared.history.Entry.{Entry}
+use Rattle.plain_model.specs.declared.replies.Reply.TheVariants as reply
 use Rattle.plain_model.specs.Refusing.{if_there}
 use Rattle.plain_model.specs.Summary.{is_fault}
 use Rattle.plain_model.specs.Written.{EachReply}
@@ -22,7 +25,8 @@ use Rattle.script_lang.specs.CommandLine.{options_built, IsAccepted, IsBadAt}
 use Rattle.script_lang.specs.Scripts.{built, IsScript, IsFirstFaulty}
 use Rattle.script_lang.specs.Sources.{script_limit, IfTold, TookAtMost}
 use Rattle.session_laws.specs.Contract.{at_rest, CoreGoesOn, CoreGoesTo}
-use Rattle.manager_core.specs.Answering.{NoLog}
+use Rattle.manager_core.specs.Cores.{Parts, IsReady}
+use Rattle.manager_core.specs.Steady.{IsSettledOp}
 
 -- ---- statuses
 
@@ -87,25 +91,45 @@ EndsWithFault [] = Unit {0}
 EndsWithFault (e ∷ []) = Unit {0}
 EndsWithFault (e ∷ f ∷ es) = (if_there is_fault e.reply ≡ false) × EndsWithFault (f ∷ es)
 
--- How the commands of a script were run.
-pub record Runs (script : List Asked) (old new : Outside) (history : List Entry) (ending : RunStatus) : Type 0 where
+-- a command that is no long one names no operation
+abbrev pub IsUnnumbered : Entry → Type 0
+IsUnnumbered e = is_long_planned e.command ≡ false → e.operation ≡ 0
+
+-- a long command that was answered `ok` names an operation
+abbrev pub IsNamed : Entry → Type 0
+IsNamed e = is_long_planned e.command ≡ true → e.reply ≡ Some reply.Ok → e.operation ≡ 0 → ⊥
+
+-- The operation of this number was committed or undone: no log row has it, and no mark of it stands at any attached site.
+abbrev pub IsSettledNumber : ℕ → Image → Type 0
+IsSettledNumber number image = (op : Op) → op.number ≡ number → IsSettledOp op image
+
+-- where contents are told, each operation of a command that was answered `ok` is settled
+abbrev pub AreSettled : List Entry → Told → Type 0
+AreSettled history told = AllByRecursion (λ (e : Entry). e.reply ≡ Some reply.Ok → (e.operation ≡ 0 → ⊥) → IfContents told (IsSettledNumber e.operation)) history
+
+-- How the commands of a script were run, and what they left was settled, over a core that was ready.
+pub record Runs (script : List Asked) (old : Parts) (new : Outside) (history : List Entry) (ending : RunStatus) : Type 0 where
   -- where a core began at the end of this trail, and rests now
-  pub on_trail : (before : Trail) → CoreGoesOn (EachReply false) (end_of_trail before) (image_at before (end_of_trail before)) before old.told (at_rest []) [] → IfContents old.told NoLog
+  pub on_trail : (before : Trail) → CoreGoesOn (EachReply false) (end_of_trail before) (image_at before (end_of_trail before)) before old.outside.told (at_rest []) [] → IsReady old
       → HoldsOnTrail (EachReply false) (for_now.stops ending) script before new.told history ending
   -- and where it began with these contents
-  pub by_states : (first : Image) → CoreGoesTo first old.told (at_rest []) → IfContents old.told NoLog → HoldsByStates (for_now.stops ending) script first new.told history
+  pub by_states : (first : Image) → CoreGoesTo first old.outside.told (at_rest []) → IsReady old → HoldsByStates (for_now.stops ending) script first new.told history
   -- each command once and in order
   pub served : EachOnceInOrder for_now script history ending
   -- what the status says besides its cause
-  pub kept : KeepsToStatus old new history ending
+  pub kept : KeepsToStatus old.outside new history ending
   -- at most one `fault` entry, and none after it
   pub ends_with_fault : EndsWithFault history
-  -- no command is an operation
-  pub no_operations : AllByRecursion (λ (e : Entry). e.operation ≡ 0) history
-  -- with status 0 or 1 each command has one entry, and there are no others
-  pub answers : is_done ending ≡ true → AreAnswersTo script history
+  -- a command that is no long one names no operation
+  pub numbered : AllByRecursion IsUnnumbered history
+  -- and a long one that was answered `ok` names one, where contents are told
+  pub named : IsReady old → IfContents new.told (λ image. AllByRecursion IsNamed history)
+  -- with status 0 or 1, where no store call failed: each operation is settled
+  pub settled : is_done ending ≡ true → (StoreRoseBy 1 old.outside new → ⊥) → IsReady old → AreSettled history new.told
+  -- with status 0 or 1, where all commands are plain: each has one entry, which names no operation
+  pub answers : is_done ending ≡ true → AllByRecursion (λ (asked : Asked). is_plain asked.command ≡ true) script → AreAnswersTo script history
   -- the world is the same one later
-  pub later : IsLater old new
+  pub later : IsLater old.outside new
 
 -- ---- the whole call
 
@@ -144,8 +168,12 @@ pub record RunsScript (words : List Text) (left after : Option Text) (faults_bef
   pub plain : is_done ending ≡ true → AllByRecursion (λ (asked : Asked). is_plain asked.command ≡ true) script → IfContents old.told (λ first. Sound first → IfContents new.told (λ last. IsPlainRun script first last history))
   -- at most one `fault` entry, and none after it
   pub ends_with_fault : EndsWithFault history
-  -- no command is an operation
-  pub no_operations : AllByRecursion (λ (e : Entry). e.operation ≡ 0) history
+  -- a command that is no long one names no operation
+  pub numbered : AllByRecursion IsUnnumbered history
+  -- and a long one that was answered `ok` names one, from a sound image on, where contents are told
+  pub named : IfContents old.told Sound → IfContents new.told (λ image. AllByRecursion IsNamed history)
+  -- with status 0 or 1, where the store count didn't rise, from a sound image on: each operation of a command that was answered `ok` is settled in the end, at all its sites
+  pub settled : is_done ending ≡ true → (StoreRoseBy 1 old new → ⊥) → IfContents old.told Sound → AreSettled history new.told
 
 -- With accepted words, with a script in the grammar that fits, and where no count rose, the script is run to its end unless memory is short or the stores name an unknown location.
 abbrev pub Completes : List Text → Option Text → ℕ → ℕ → Outside → Outside → RunStatus → Type 0

@@ -6,6 +6,8 @@ use Rattle.plain_model.specs.declared.replies.Sort.TheVariants as sort
 use Rattle.manager_core.specs.declared.manager.Outcome.{Outcome}
 use Rattle.manager_core.specs.declared.manager.Outcome.TheVariants.{Going, Ended, Stopped}
 use Rattle.manager_core.specs.declared.manager.StopCause.TheVariants as cause
+use Rattle.manager_core.specs.declared.opening.Tail.{Tail}
+use Rattle.manager_core.specs.declared.opening.Tail.TheVariants as tail
 
 -- with this status the run stops after the command
 abbrev pub stop_of : Outcome → Option RunStatus
@@ -21,3 +23,10 @@ stop_of (Going number) = None
 abbrev pub refuses : Outcome → Bool
 refuses (Ended sort.Refused) = true
 refuses other = false
+
+-- The status of a run, by that of its commands and by what became of what they left to settle: where memory was short then it is 6, unless the run stopped at a write.
+abbrev pub status_after : RunStatus → Tail → RunStatus
+status_after status.Done tail.Memory = status.Memory
+status_after status.Refused tail.Memory = status.Memory
+status_after status.StoreFault tail.Memory = status.Memory
+status_after ending other = ending

@@ -1,18 +1,22 @@
 //! The commands of a script, one after the other.
-ghost use Rattle.std.specs.Prelude.{◌≡◌, ◌≤◌, true, [], None};
+ghost use Rattle.std.specs.Prelude.{◌≡◌, ◌≤◌, length, true, [], None};
 ghost use Rattle.std.specs.List.{AllByRecursion};
-ghost use Rattle.map_ops.specs.Planning.{is_planned};
-ghost use Rattle.manager_core.specs.Answering.{IsCopy};
-ghost use Rattle.manager_core.specs.Cores.{HasRoom};
+ghost use Rattle.cell_world.specs.Outside.{IsLater};
+ghost use Rattle.map_ops.specs.Planning.{is_asked};
+ghost use Rattle.manager_core.specs.Cores.{HasRoom, parts};
+ghost use Rattle.manager_core.specs.Doings.{AreAtRest, all_doing};
+ghost use Rattle.manager_core.specs.Events.{IsResting};
 ghost use Rattle.plain_model.specs.Headline.{StatusCause};
-ghost use Rattle.plain_model.specs.declared.commands.Asked.{Asked};
-ghost use Rattle.script_shell.specs.Stops.{stop_of, refuses};
-ghost use Rattle.script_shell.specs.Promises.{Runs, for_now, no_causes, is_of_commands};
+ghost use Rattle.script_shell.specs.Promises.{Runs, for_now, is_of_commands, no_causes};
+ghost use Rattle.script_shell.specs.Ran.{Ran, IsAskedAlone};
+ghost use Rattle.script_shell.specs.Serving.{GoesFurther, IsUnderWay, Serves};
+ghost use Rattle.script_shell.specs.Stops.{refuses, status_after, stop_of};
 
 use cell_world::outside::World;
 use manager_core::manager::{Core, Event, Outcome, StopCause};
-use plain_model::commands::Asked;
-use plain_model::finish::RunStatus;
+use manager_core::opening::Tail;
+use plain_model::commands::{Asked, Command};
+use plain_model::finish::{Finish, RunStatus};
 use plain_model::replies::Sort;
 use std::alloc::Global;
 
@@ -38,21 +42,67 @@ fn was_refused(outcome: Outcome) -> bool
     matches!(outcome, Outcome::Ended(Sort::Refused))
 }
 
-/// Asks the commands in order, and says how the run ended.
-pub fn run_commands<W: World>(alloc: Global, core: &mut Core<W>, script: Vec<Asked>) -> RunStatus
+/// One step more of a command that is going.
+fn go_on<W: World>(alloc: Global, core: &mut Core<W>, session: u32, outcome: Outcome) -> Outcome
+    requires session { (1 ≤ session) × (session ≤ length core.old.doings) }
+    requires under_way { IsUnderWay outcome (all_doing core.old.doings session) }
+    requires room { HasRoom core.old.journal core.old.stop }
+    ensures further { GoesFurther session outcome
+        (parts (W.outside core.old.world) core.old.journal.entries core.old.doings core.old.known core.old.stop)
+        (parts (W.outside core.new.world) core.new.journal.entries core.new.doings core.new.known core.new.stop) result }
+    ensures under_way { IsUnderWay result (all_doing core.new.doings session) }
+    ensures room { HasRoom core.new.journal core.new.stop }
+    ensures sessions { length core.new.doings ≡ length core.old.doings }
+    ensures later { IsLater (W.outside core.old.world) (W.outside core.new.world) }
+{
+    match outcome {
+        Outcome::Going(_) => core.event(alloc, session, Event::Go, false),
+        Outcome::Ended(_) | Outcome::Stopped(_) => outcome,
+    }
+}
+
+/// Asks a command, and goes on until it has its reply. An operation comes to at most three stages before its commit: when
+/// it begins, and by its two local steps.
+fn run_command<W: World>(
+    alloc: Global,
+    core: &mut Core<W>,
+    session: u32,
+    command: Command,
+) -> Outcome
+    requires session { (1 ≤ session) × (session ≤ length core.old.doings) }
+    requires asked { is_asked command ≡ true }
+    requires rests { IsResting (all_doing core.old.doings session) }
+    requires goes { core.old.stop ≡ None }
+    requires room { HasRoom core.old.journal core.old.stop }
+    ensures serves { Serves session command
+        (parts (W.outside core.old.world) core.old.journal.entries core.old.doings core.old.known core.old.stop)
+        (parts (W.outside core.new.world) core.new.journal.entries core.new.doings core.new.known core.new.stop) result }
+    ensures room { HasRoom core.new.journal core.new.stop }
+    ensures sessions { length core.new.doings ≡ length core.old.doings }
+    ensures later { IsLater (W.outside core.old.world) (W.outside core.new.world) }
+{
+    let asked = core.event(alloc, session, Event::Ask(command), false);
+    core.doings.proper();
+    let first = go_on(alloc, core, session, asked);
+    let second = go_on(alloc, core, session, first);
+    go_on(alloc, core, session, second)
+}
+
+/// Asks the commands in order, and says how they ended.
+fn run_commands<W: World>(alloc: Global, core: &mut Core<W>, script: Vec<Asked>) -> RunStatus
     requires first { core.old.journal.entries ≡ [] }
     requires goes { core.old.stop ≡ None }
     requires room { HasRoom core.old.journal core.old.stop }
-    requires copy { IsCopy core.old.known (W.outside core.old.world).told }
-    requires one_session { core.old.sessions ≡ 1 }
-    requires planned { AllByRecursion (λ (asked : Asked). (is_planned asked.command ≡ true) × (asked.session ≡ 1)) script.items }
-    ensures runs { Runs script.items (W.outside core.old.world) (W.outside core.new.world) core.new.journal.entries result }
-    ensures cause { StatusCause for_now no_causes (W.outside core.old.world) (W.outside core.new.world) core.new.journal.entries result }
-    ensures of_commands { is_of_commands result ≡ true }
+    requires rests { AreAtRest core.old.doings }
+    requires one_session { length core.old.doings ≡ 1 }
+    requires asked { AllByRecursion IsAskedAlone script.items }
+    ensures ran { Ran script.items
+        (parts (W.outside core.old.world) core.old.journal.entries core.old.doings core.old.known core.old.stop)
+        (parts (W.outside core.new.world) core.new.journal.entries core.new.doings core.new.known core.new.stop) result }
 {
     let mut refused = false;
     for asked in script {
-        let outcome = core.event(alloc, asked.session, Event::Ask(asked.command), false);
+        let outcome = run_command(alloc, core, asked.session, asked.command);
         if let Some(status) = stopped(outcome) {
             return status;
         }
@@ -63,4 +113,41 @@ pub fn run_commands<W: World>(alloc: Global, core: &mut Core<W>, script: Vec<Ask
     } else {
         RunStatus::Done
     }
+}
+
+/// The status of a run, by that of its commands and by what became of what they left to settle.
+fn status_after(status: RunStatus, tail: Tail) -> RunStatus
+    ensures { result ≡ status_after status tail }
+{
+    match tail {
+        Tail::Memory => match status {
+            RunStatus::Done | RunStatus::Refused | RunStatus::StoreFault => RunStatus::Memory,
+            other => other,
+        },
+        Tail::Settled | Tail::Store => status,
+    }
+}
+
+/// Asks the commands in order, settles what they left, and says how the run ended.
+pub fn run_core<W: World>(alloc: Global, core: Core<W>, script: Vec<Asked>) -> (Finish, W)
+    requires first { core.journal.entries ≡ [] }
+    requires goes { core.stop ≡ None }
+    requires room { HasRoom core.journal core.stop }
+    requires rests { AreAtRest core.doings }
+    requires one_session { length core.doings ≡ 1 }
+    requires asked { AllByRecursion IsAskedAlone script.items }
+    ensures runs { Runs script.items (parts (W.outside core.world) core.journal.entries core.doings core.known core.stop) (W.outside result.1) result.0.history result.0.status }
+    ensures cause { StatusCause for_now no_causes (W.outside core.world) (W.outside result.1) result.0.history result.0.status }
+    ensures of_commands { is_of_commands result.0.status ≡ true }
+{
+    let mut core = core;
+    let status = run_commands(alloc, &mut core, script);
+    let (history, tail, world) = core.finish(alloc);
+    (
+        Finish {
+            status: status_after(status, tail),
+            history,
+        },
+        world,
+    )
 }

@@ -4,7 +4,7 @@ ghost use Rattle.std.specs.String.{string_bytes};
 ghost use Rattle.script_shell.specs.Promises.{RunsScript, Completes};
 ghost use Rattle.script_shell.specs.Reading.{IsReadScript, StopsReading, unopened};
 
-use crate::run::run_commands;
+use crate::run::run_core;
 use cell_world::outside::{Source, World};
 use manager_core::manager::Core;
 use manager_core::opening::StartFault;
@@ -87,11 +87,9 @@ pub fn run_script<W: World, S: Source>(
         Ok(script) => script,
         Err(status) => return (unstarted(alloc, status), world),
     };
-    let mut core = match Core::start(alloc, world, 1) {
+    let core = match Core::start(alloc, world, 1) {
         Ok(core) => core,
         Err((fault, world)) => return (unstarted(alloc, unopened(fault)), world),
     };
-    let status = run_commands(alloc, &mut core, script.lines.into_vec());
-    let (history, _tail, world) = core.finish();
-    (Finish { status, history }, world)
+    run_core(alloc, core, script.lines.into_vec())
 }

@@ -2,6 +2,8 @@
 #![tactic(auto)]
 
 #[cfg(test)]
+mod adding_tests;
+#[cfg(test)]
 mod edge_tests;
 #[cfg(test)]
 mod tests;

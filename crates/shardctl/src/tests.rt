@@ -14,13 +14,18 @@ use world_memory::world::MemoryWorld;
 
 /// How a run ended, and the world after it.
 #[derive(Drop)]
-struct Ran {
-    status: RunStatus,
-    world: MemoryWorld,
+pub(crate) struct Ran {
+    pub(crate) status: RunStatus,
+    pub(crate) world: MemoryWorld,
 }
 
 /// Runs a script with words over a world.
-fn run_with(alloc: Global, words: &Vec<String>, world: MemoryWorld, script: Vec<u8>) -> Ran {
+pub(crate) fn run_with(
+    alloc: Global,
+    words: &Vec<String>,
+    world: MemoryWorld,
+    script: Vec<u8>,
+) -> Ran {
     let mut source = MemorySource::new(script);
     let (finish, world) = run_script(alloc, words, world, &mut source);
     Ran {
@@ -35,7 +40,7 @@ fn run_over(alloc: Global, world: MemoryWorld, script: Vec<u8>) -> Ran {
 }
 
 /// The words of a line, each behind a blank but the first.
-fn words_in(alloc: Global, line: &str) -> Result<Vec<String>, Fail> {
+pub(crate) fn words_in(alloc: Global, line: &str) -> Result<Vec<String>, Fail> {
     let mut words: Vec<String> = Vec::new(alloc);
     for word in line.split(' ') {
         words.push(format!(in alloc; "{word}")?)?;
@@ -44,14 +49,14 @@ fn words_in(alloc: Global, line: &str) -> Result<Vec<String>, Fail> {
 }
 
 /// Runs a script over empty stores at the locations of the words.
-fn run_at(alloc: Global, line: &str, script: &[u8]) -> Result<Ran, Fail> {
+pub(crate) fn run_at(alloc: Global, line: &str, script: &[u8]) -> Result<Ran, Fail> {
     let words = words_in(alloc, line)?;
     let world = world_of(alloc, &words)?;
     Ok(run_with(alloc, &words, world, script.to_vec(alloc)?))
 }
 
 /// Whether a run had this status and wrote this.
-fn is(alloc: Global, ran: &Ran, status: RunStatus, output: &[u8]) -> Result<bool, Fail> {
+pub(crate) fn is(alloc: Global, ran: &Ran, status: RunStatus, output: &[u8]) -> Result<bool, Fail> {
     Ok(ran.status == status && ran.world.output(alloc)?.as_slice() == output)
 }
 
@@ -115,11 +120,7 @@ fn a_bad_line_is_found_before_anything_is_done(rt: HostRuntime) -> Result<(), Fa
     );
     assert_eq!(rt; after.world.moment(), 0);
     // a command that isn't built yet is unknown
-    let after = run_over(
-        alloc,
-        empty_world(alloc)?,
-        b"add m 0 1 s/a\n".to_vec(alloc)?,
-    );
+    let after = run_over(alloc, empty_world(alloc)?, b"delete m 0\n".to_vec(alloc)?);
     assert!(rt; after.status == RunStatus::BadScript(1, Reason::UnknownCommand));
     Ok(())
 }

@@ -57,7 +57,7 @@ pub fn run<I: SteadyRead + Drop, O: Write>(
     }
 }
 
-/// Tells how a run ended, in one line for the statuses 2 to 7, and gives the exit status. Where memory or the
+/// Tells how a run ended, in one line for the statuses 2 to 8, and gives the exit status. Where memory or the
 /// errors fail, the line is lost.
 pub fn tell<E: Write>(alloc: Global, status: &RunStatus, errors: &mut E) -> u8
     ensures { result ≡ exit_status status.now }

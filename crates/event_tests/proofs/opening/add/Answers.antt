@@ -1,4 +1,4 @@
-use Rattle.std.proofs.Common.{◌≡◌, Bool, true, ◌&&◌, ap}
+use Rattle.std.proofs.Common.{Bool, true, ◌&&◌, ap}
 use Rattle.cell_world.proofs.SpanLaws.{same_self}
 use Rattle.event_tests.proofs.opening.add.Goals as goal
 

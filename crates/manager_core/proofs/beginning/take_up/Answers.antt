@@ -1,7 +1,7 @@
 use Rattle.std.proofs.Common.{ap}
 use Rattle.std.specs.Prelude.{Err}
 use Rattle.cell_world.proofs.OutsideLaws.{later_same}
-use Rattle.manager_core.proofs.BeginningLaws.{below_at, full_takes, store_takes, memory_takes, takes_later}
+use Rattle.manager_core.proofs.TakingLaws.{below_at, full_takes, store_takes, memory_takes, takes_later}
 use Rattle.manager_core.proofs.OpeningLaws.{rose_at_global, rose_by_before}
 use Rattle.manager_core.proofs.beginning.take_up.Goals as goal
 

@@ -1,4 +1,4 @@
-use Rattle.manager_core.proofs.BeginningLaws.{takes_below}
+use Rattle.manager_core.proofs.TakingLaws.{takes_below}
 use Rattle.manager_core.proofs.beginning.take_up_below.Goals as goal
 
 pub returns-clause-takes : goal.returns-clause-takes

@@ -1,22 +1,14 @@
-use Rattle.std.proofs.Common.{refl, sym, subst}
-use Rattle.std.specs.Prelude.{Ok}
-use Rattle.op_steps.specs.Stages.{name_of, next_stage}
-use Rattle.operation_laws.specs.Forward.{IsForward, IsBeforeTarget}
-use Rattle.manager_core.specs.Moving.{MovesOn}
-use Rattle.manager_core.proofs.MovingLaws.{on_moves, stopped_moves, then_moves}
-use Rattle.manager_core.proofs.OpeningLaws.{rose_by_before}
+use Rattle.std.proofs.Common.{sym, subst}
+use Rattle.op_steps.specs.Stages.{name_of}
+use Rattle.operation_laws.specs.Forward.{IsBeforeTarget}
+use Rattle.manager_core.specs.Moving.{MovesOn, MovesOnce}
+use Rattle.manager_core.proofs.MovingOnce.{over_moves, over_once}
 use Rattle.manager_core.proofs.moving.move_from_source.Goals as goal
 
-pub returns-then-moment-before-clause-moves : goal.returns-then-moment-before-clause-moves
-returns-then-moment-before-clause-moves g c = then_moves (g.W.World.outside c.args.world.now) (g.W.World.outside c.advance.new.world) c.args.op.now (name_of c.args.stage) (Ok c.in-Ok.next) c.in-Ok.ensures.passes (subst IsForward (sym c.requires) tt) (subst IsBeforeTarget (sym c.requires) tt) refl
-    (g.W.World.outside c.move_from_target.new.world) c.move_from_target.result (subst (λ name. MovesOn c.args.op.now name c.move_from_target.result (g.W.World.outside c.advance.new.world) (g.W.World.outside c.move_from_target.new.world)) c.in-Ok.ensures.name c.move_from_target.ensures.moves)
+pub returns-else-has_step-clause-moves : goal.returns-else-has_step-clause-moves
+returns-else-has_step-clause-moves g c = over_moves c.args.op.now (name_of c.args.stage) (subst IsBeforeTarget (sym c.requires) tt) (cc) c.args.stage (g.W.World.outside c.args.world.now) (g.W.World.outside c.move_from_target.new.world) c.move_from_target.result
+    (subst (λ name. MovesOn c.args.op.now name c.move_from_target.result (g.W.World.outside c.args.world.now) (g.W.World.outside c.move_from_target.new.world)) c.pass_over.ensures.name c.move_from_target.ensures.moves)
 
-pub returns-then-moment-before-clause-cause : goal.returns-then-moment-before-clause-cause
-returns-then-moment-before-clause-cause g c = λ is. rose_by_before 1 (g.W.World.outside c.args.world.now) (g.W.World.outside c.advance.new.world) (g.W.World.outside c.move_from_target.new.world) c.in-Ok.ensures.passes.later (c.move_from_target.ensures.cause is)
-
-pub returns-else-moment-before-clause-moves : goal.returns-else-moment-before-clause-moves
-returns-else-moment-before-clause-moves g c = on_moves _ _ c.args.op.now (name_of c.args.stage) (Ok c.in-Ok.next) c.in-Ok.ensures.passes (subst IsForward (sym c.requires) tt) (subst IsBeforeTarget (sym c.requires) tt) refl c.in-Ok.next c.in-Ok.ensures.name
-    (subst (λ name. IsForward (next_stage name)) (sym c.requires) tt)
-
-pub returns-in-Err-clause-moves : goal.returns-in-Err-clause-moves
-returns-in-Err-clause-moves g c = stopped_moves _ _ c.args.op.now (name_of c.args.stage) (subst IsForward (sym c.requires) tt) c.in-Err.fault c.in-Err.ensures.passes c.stopped_by.result c.stopped_by.ensures
+pub returns-else-has_step-clause-once : goal.returns-else-has_step-clause-once
+returns-else-has_step-clause-once g c = over_once c.args.op.now (name_of c.args.stage) (subst IsBeforeTarget (sym c.requires) tt) (cc) c.args.stage (g.W.World.outside c.args.world.now) (g.W.World.outside c.move_from_target.new.world) c.move_from_target.result
+    (subst (λ name. MovesOnce c.args.op.now name c.move_from_target.result (g.W.World.outside c.args.world.now) (g.W.World.outside c.move_from_target.new.world)) c.pass_over.ensures.name c.move_from_target.ensures.once)

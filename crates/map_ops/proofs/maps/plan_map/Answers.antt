@@ -4,5 +4,5 @@ use Rattle.map_ops.proofs.maps.plan_map.Goals as goal
 
 pub returns-in-None-clause-plans : goal.returns-in-None-clause-plans
 returns-in-None-clause-plans c =
-    planned_always c.args.known.now _ _ _ (λ image sound accepts. map_planned image sound c.args.name c.args.kind c.args.key_type accepts)
+    planned_always c.args.known.now _ _ _ (λ image sound accepts. map_planned image c.args.name c.args.kind c.args.key_type accepts)
     c.map_refusal.result c.in-None.is c.put_cell.result c.put_cell.ensures.plan c.put_cell.ensures.memory (c.map_refusal.ensures.refuses c.args.kind c.args.key_type)

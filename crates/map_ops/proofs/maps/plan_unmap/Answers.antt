@@ -7,7 +7,7 @@ use Rattle.map_ops.proofs.maps.plan_unmap.Goals as goal
 
 pub returns-in_ok-change-in-None-clause-plans : goal.returns-in_ok-change-in-None-clause-plans
 returns-in_ok-change-in-None-clause-plans c image sound copy =
-    unmap_planned_by image sound c.args.name (tables_named c.args.name c.args.known.now.tables) (tables_there c.args.known.now (global image) c.args.name copy)
+    unmap_planned_by image c.args.name (tables_named c.args.name c.args.known.now.tables) (tables_there c.args.known.now (global image) c.args.name copy)
     c.in_ok-change-in-None.change c.in_ok-change-in-None.ensures c.unmap_refusal.result c.in-None.is (c.unmap_refusal.ensures.refuses image copy)
 
 pub returns-in_ok-change-in-None-clause-short : goal.returns-in_ok-change-in-None-clause-short

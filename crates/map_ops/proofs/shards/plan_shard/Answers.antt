@@ -4,5 +4,5 @@ use Rattle.map_ops.proofs.shards.plan_shard.Goals as goal
 
 pub returns-in-None-clause-plans : goal.returns-in-None-clause-plans
 returns-in-None-clause-plans g c =
-    planned_told c.args.known.now _ _ _ (λ image sound accepts. shard_planned image sound c.args.name c.args.at accepts)
+    planned_told c.args.known.now _ _ _ (λ image sound accepts. shard_planned image c.args.name c.args.at accepts)
     c.shard_refusal.result c.in-None.is c.put_cell.result c.put_cell.ensures.plan c.put_cell.ensures.memory _ c.shard_refusal.ensures.refuses

@@ -1,9 +1,10 @@
+use Rattle.std.specs.Prelude.{length}
 use Rattle.std.specs.Vec.Iter.{into_iter_items}
 use Rattle.std.specs.List.{AllByRecursion}
 use Rattle.std.proofs.Common.{◌≡◌}
-use Rattle.manager_core.specs.Cores.{HasRoom}
+use Rattle.manager_core.specs.Cores.{HasRoom, parts}
+use Rattle.script_shell.specs.Ran.{IsAskedAlone}
 use Rattle.script_shell.proofs.LoopLaws.{SoFar}
-use Rattle.script_shell.proofs.ScriptLaws.{IsPlannedAsked}
 use Rattle.script_shell.proofs.run.run_commands.Given as goal
 
 abbrev pub invariant-loop-asked : goal.invariant-loop-asked
@@ -12,9 +13,9 @@ invariant-loop-asked g l =
       can : (goal.iterator-loop-asked g).can_next l.asked-iterator;
       finite : (goal.iterator-loop-asked g).is_finite l.asked-iterator;
       so_far : SoFar l.fn.script.items (into_iter_items l.asked-iterator)
-          (record { outside = g.W.World.outside l.fn.core.world; history = l.fn.core.journal.entries; known = l.fn.core.known; stop = l.fn.core.stop })
-          (record { outside = g.W.World.outside l.core.world; history = l.core.journal.entries; known = l.core.known; stop = l.core.stop }) l.refused;
+          (parts (g.W.World.outside l.fn.core.world) l.fn.core.journal.entries l.fn.core.doings l.fn.core.known l.fn.core.stop)
+          (parts (g.W.World.outside l.core.world) l.core.journal.entries l.core.doings l.core.known l.core.stop) l.refused;
       room : HasRoom l.core.journal l.core.stop;
-      one_session : l.core.sessions ≡ 1;
-      planned : AllByRecursion IsPlannedAsked (into_iter_items l.asked-iterator);
+      one_session : length l.core.doings ≡ 1;
+      asked : AllByRecursion IsAskedAlone (into_iter_items l.asked-iterator);
     }

@@ -1,9 +1,11 @@
-use Rattle.std.proofs.Common.{◌≡◌, [], map, subst, sym, ◌∙◌}
+use Rattle.std.proofs.Common.{map, subst, sym, ◌∙◌}
 use Rattle.std.specs.String.{string_bytes}
 use Rattle.std.specs.List.{AllByRecursion}
-use Rattle.script_shell.specs.Promises.{Runs, RunsScript}
+use Rattle.manager_core.specs.Cores.{Parts, parts}
+use Rattle.script_shell.specs.Promises.{Runs}
+use Rattle.script_shell.specs.Ran.{IsAskedAlone}
 use Rattle.script_shell.proofs.CallLaws.{stops_reading, stops_opening, commands_run, completes}
-use Rattle.script_shell.proofs.ScriptLaws.{IsPlannedAsked, script_is_planned}
+use Rattle.script_shell.proofs.ScriptLaws.{script_is_asked}
 use Rattle.script_shell.proofs.shell.run_script.Goals as goal
 
 pub returns-in-Err-clause-promises : goal.returns-in-Err-clause-promises
@@ -20,17 +22,16 @@ returns-in-Err-start-clause-promises g c =
 pub returns-in-Err-start-clause-completes : goal.returns-in-Err-start-clause-completes
 returns-in-Err-start-clause-completes g c = completes _ _ _ _ _ _ _ _ _ (returns-in-Err-start-clause-promises g c)
 
-pub run_commands-status-requires-clause-planned : goal.run_commands-status-requires-clause-planned
-run_commands-status-requires-clause-planned g c = subst (AllByRecursion IsPlannedAsked) (sym c.into_vec.ensures) (script_is_planned c.in-Ok.ensures.ok.bytes c.in-Ok.script.lines c.in-Ok.ensures.ok.grammar)
+pub run_core-requires-clause-asked : goal.run_core-requires-clause-asked
+run_core-requires-clause-asked g c = subst (AllByRecursion IsAskedAlone) (sym c.into_vec.ensures) (script_is_asked c.in-Ok.ensures.ok.bytes c.in-Ok.script.lines c.in-Ok.ensures.ok.grammar)
 
 pub returns-clause-promises : goal.returns-clause-promises
 returns-clause-promises g c =
-    let run = c.run_commands-status in
-    let runs = commands_run (map string_bytes c.args.words.now.items) _ _ _ _ c.in-Ok.script.lines c.in-Ok.ensures.ok (g.W.World.outside c.args.world) (g.W.World.outside c.in-Ok-start.core.world) (g.W.World.outside run.new.core.world) run.new.core.journal.entries run.result
-    c.in-Ok-start.ensures.opens c.in-Ok-start.ensures.recovers c.in-Ok-start.ensures.later c.in-Ok-start.ensures.all_known
-    (subst (λ script. Runs script (g.W.World.outside c.in-Ok-start.core.world) (g.W.World.outside run.new.core.world) run.new.core.journal.entries run.result) c.into_vec.ensures run.ensures.runs) run.ensures.cause run.ensures.of_commands in
-    subst (λ w. RunsScript (map string_bytes c.args.words.now.items) (g.S.Source.left c.args.source.now) (g.S.Source.left c.script_of.new.source) (g.S.Source.faults c.args.source.now) (g.S.Source.faults c.script_of.new.source) (g.W.World.outside c.args.world) (g.W.World.outside w) c.finish-history.result.0 run.result) (sym c.finish-history.ensures.world)
-    (subst (λ h. RunsScript (map string_bytes c.args.words.now.items) (g.S.Source.left c.args.source.now) (g.S.Source.left c.script_of.new.source) (g.S.Source.faults c.args.source.now) (g.S.Source.faults c.script_of.new.source) (g.W.World.outside c.args.world) (g.W.World.outside run.new.core.world) h run.result) (sym c.finish-history.ensures.history) runs)
+    let core = c.in-Ok-start.core in
+    let old : Parts = parts (g.W.World.outside core.world) core.journal.entries core.doings core.known core.stop in
+    commands_run (map string_bytes c.args.words.now.items) _ _ _ _ c.in-Ok.script.lines c.in-Ok.ensures.ok (g.W.World.outside c.args.world) old (g.W.World.outside c.run_core.result.1) c.run_core.result.0.history c.run_core.result.0.status
+    c.in-Ok-start.ensures.opens c.in-Ok-start.ensures.ready c.in-Ok-start.ensures.later c.in-Ok-start.ensures.all_known
+    (subst (λ script. Runs script old (g.W.World.outside c.run_core.result.1) c.run_core.result.0.history c.run_core.result.0.status) c.into_vec.ensures c.run_core.ensures.runs) c.run_core.ensures.cause c.run_core.ensures.of_commands
 
 pub returns-clause-completes : goal.returns-clause-completes
 returns-clause-completes g c = completes _ _ _ _ _ _ _ _ _ (returns-clause-promises g c)

@@ -1,8 +1,7 @@
-use Rattle.std.proofs.Common.{◌≡◌, [], map, subst, ap, sym}
+use Rattle.std.proofs.Common.{map, subst, ap, sym}
 use Rattle.std.specs.Prelude.{Err}
 use Rattle.std.specs.String.{string_bytes}
 use Rattle.script_lang.specs.declared.programs.Program.TheVariants.{Ctl}
-use Rattle.script_lang.specs.declared.command_line.WordsFault.TheVariants as fault
 use Rattle.script_lang.specs.CommandLine.{options_built, IsAccepted, IsWordsFault}
 use Rattle.script_lang.specs.Scripts.{built, IsScriptFault}
 use Rattle.plain_model.specs.declared.finish.RunStatus.TheVariants as status

@@ -1,4 +1,4 @@
-use Rattle.std.proofs.Common.{◌≡◌, inr, map, subst}
+use Rattle.std.proofs.Common.{inr, map, subst}
 use Rattle.std.specs.Prelude.{Result, Ok, Err, IfOk}
 use Rattle.std.specs.String.{string_bytes}
 use Rattle.script_lang.specs.declared.programs.Program.TheVariants.{Ctl}

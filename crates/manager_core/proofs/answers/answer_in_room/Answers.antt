@@ -1,4 +1,0 @@
-use Rattle.manager_core.proofs.answers.answer_in_room.Goals as goal
-
-pub returns-in-Err-clause-lines : goal.returns-in-Err-clause-lines
-returns-in-Err-clause-lines g c = c.no_memory.ensures.lines c.args.tag
