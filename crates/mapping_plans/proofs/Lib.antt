@@ -1,0 +1,16 @@
+pub mod AfterChecks
+pub mod DeletePlans
+pub mod EmptyPlans
+pub mod ExchangeLaws
+pub mod LockPlans
+pub mod MergePlans
+pub mod MovePlans
+pub mod NamedMappings
+pub mod NamedPieces
+pub mod NextMappings
+pub mod RangeMaps
+pub mod RowsUnder
+pub mod SiteFaults
+pub mod SiteReads
+pub mod SplitPlans
+pub mod StatusPlans
