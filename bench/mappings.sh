@@ -26,31 +26,32 @@ script() {
     }' > "$work/script"
 }
 
-# the least time of the runs, in nanoseconds: KIND MAPPINGS COUNT
-least() {
+# one run of the script, in nanoseconds: KIND MAPPINGS COUNT
+once() {
     script "$1" "$2" "$3"
-    best=
-    i=0
-    while [ "$i" -lt "$runs" ]; do
-        begun=$(date +%s%N)
-        # shellcheck disable=SC2086
-        "$program" $words < "$work/script" > "$work/out" || { echo "bench: the program ended with status $?" >&2; exit 1; }
-        ended=$(date +%s%N)
-        took=$((ended - begun))
-        if [ -z "$best" ] || [ "$took" -lt "$best" ]; then best=$took; fi
-        i=$((i + 1))
-    done
+    begun=$(date +%s%N)
+    # shellcheck disable=SC2086
+    "$program" $words < "$work/script" > "$work/out" || { echo "bench: the program ended with status $?" >&2; exit 1; }
+    ended=$(date +%s%N)
     lines=$(wc -l < "$work/out")
     wanted=$((65 + $2 + $3))
     if [ "$1" = list ]; then wanted=$((wanted + $2 * $3)); fi
     [ "$lines" -eq "$wanted" ] || { echo "bench: $lines lines in place of $wanted" >&2; exit 1; }
-    echo "$best"
+    echo $((ended - begun))
 }
 
-# the time of one command, or line, at so many mappings: KIND MAPPINGS COUNT UNITS
+# the time of one command, or line, at so many mappings, from runs without and with them by turns: KIND MAPPINGS COUNT UNITS
 each() {
-    without=$(least "$1" "$2" 0)
-    with=$(least "$1" "$2" "$3")
+    without=
+    with=
+    i=0
+    while [ "$i" -lt "$runs" ]; do
+        took=$(once "$1" "$2" 0)
+        if [ -z "$without" ] || [ "$took" -lt "$without" ]; then without=$took; fi
+        took=$(once "$1" "$2" "$3")
+        if [ -z "$with" ] || [ "$took" -lt "$with" ]; then with=$took; fi
+        i=$((i + 1))
+    done
     more=$((with - without))
     if [ "$more" -le 0 ]; then
         echo "bench: can't tell: a run with commands was not longer than one without" >&2
@@ -68,6 +69,6 @@ compare() {
     }'
 }
 
-compare add 1000 1000 1000 1000 command
-compare find 20000 20000 20000 20000 command
-compare list 200 200000 10 200000 line
+compare add 1000 1000 4000 4000 command
+compare find 25000 25000 25000 25000 command
+compare list 1000 1000000 50 1000000 line
