@@ -38,24 +38,24 @@ with_none : (piece : Option Piece) → sites_with piece None ≡ locations_of (o
 with_none None = refl
 with_none (Some p) = refl
 
-pub source_on : (op : Op) (ok memory : Type 0) (a b : Outside) → Passes (MarksBeside op op.olds.one None ok) a b → Passes (Advances op Logged ok memory) a b
-source_on op ok memory a b p = passes_weaker (MarksBeside op op.olds.one None ok) (Advances op Logged ok memory) a b
+pub source_on : (op : Op) (ok memory : Type 0) (a b : Outside) → Passes (MarksBeside op op.olds.one None ok memory) a b → Passes (Advances op Logged ok memory) a b
+source_on op ok memory a b p = passes_weaker (MarksBeside op op.olds.one None ok memory) (Advances op Logged ok memory) a b
     (λ image hs f sound w. let r = f sound w (own_one image op sound w.logged) in record {
       course = r.course;
       few = r.few;
       reached = λ k. subst (IsUnderWay (after_all image hs) op) (with_none op.olds.one) (r.done k);
       committed = λ e k. cc;
-      untried = λ e k. cc;
+      untried = λ e. r.untried;
     }) p
 
-pub target_on : (op : Op) (ok memory : Type 0) (a b : Outside) → Passes (MarksBeside op op.news.one op.olds.one ok) a b → Passes (Advances op SourceDone ok memory) a b
-target_on op ok memory a b p = passes_weaker (MarksBeside op op.news.one op.olds.one ok) (Advances op SourceDone ok memory) a b
+pub target_on : (op : Op) (ok memory : Type 0) (a b : Outside) → Passes (MarksBeside op op.news.one op.olds.one ok memory) a b → Passes (Advances op SourceDone ok memory) a b
+target_on op ok memory a b p = passes_weaker (MarksBeside op op.news.one op.olds.one ok memory) (Advances op SourceDone ok memory) a b
     (λ image hs f sound w. let r = f sound w (new_one image op sound w.logged) in record {
       course = r.course;
       few = r.few;
       reached = r.done;
       committed = λ e k. cc;
-      untried = λ e k. cc;
+      untried = λ e. r.untried;
     }) p
 
 -- ---- the commit
@@ -101,12 +101,12 @@ settle_on op ok memory a b p = passes_weaker (SettlesAll op ok) (Advances op Com
       few = r.few;
       reached = λ k. (now, (now.out, all_from (λ l. IsAttachedIn (after_all image hs) l → HasNoMark op (locals_at (after_all image hs) l)) (sites_of op) (λ l h at. r.clean k l h (attached_before op image (after_all image hs) s l at))));
       committed = λ e k. cc;
-      untried = λ e k. cc;
+      untried = λ e k. absurd (omega (arith, e));
     }) p
 
 pub stay_settled : (op : Op) (a : Outside) → Passes (Advances op Settled (true ≡ true) ⊥) a a
 stay_settled op a = passes_none (Advances op Settled (true ≡ true) ⊥) a a refl (later_same a)
-    (contents_all a.told (λ image. Advances op Settled (true ≡ true) ⊥ image []) (λ image sound c. record { course = tt; few = omega arith; reached = λ k. c; committed = λ e k. cc; untried = λ e k. cc }))
+    (contents_all a.told (λ image. Advances op Settled (true ≡ true) ⊥ image []) (λ image sound c. record { course = tt; few = omega arith; reached = λ k. c; committed = λ e k. cc; untried = λ e k. absurd k }))
 
 -- at the stage that it is
 pub at_stage : (op : Op) (name is : StageName) (ok memory : Type 0) (a b : Outside) → name ≡ is → Passes (Advances op is ok memory) a b → Passes (Advances op name ok memory) a b

@@ -81,14 +81,16 @@ pub record SettlesAt (op : Op) (image : Image) (place : Place) (change : List Ed
 abbrev pub sites_with : Option Piece → Option Piece → List Text
 sites_with piece done = locations_of (option_to_list piece) ++ locations_of (option_to_list done)
 
--- A local step was tried, or there was nothing to do; `ok` says that the call succeeded.
-pub record Marks (op : Op) (sites : List Text) (ok : Type 0) (image : Image) (hs : List Happening) : Type 0 where
+-- A local step was tried, or there was nothing to do; `ok` says that the call succeeded, and `memory` that it failed for want of memory.
+pub record Marks (op : Op) (sites : List Text) (ok memory : Type 0) (image : Image) (hs : List Happening) : Type 0 where
   -- nothing was tried but local steps of the operation
   pub course : IsCourse (StepsAt op) image hs
   -- and at most one
   pub few : length hs ≤ 1
   -- where all went well the operation is under way with these sites done
   pub done : ok → IsUnderWay (after_all image hs) op sites
+  -- for want of memory it wasn't tried
+  pub untried : memory → hs ≡ []
 
 -- ---- the commit
 
@@ -185,8 +187,8 @@ pub record HasAdvanced (op : Op) (name : StageName) (ok memory : Type 0) (image 
   pub reached : ok → AtStage op (next_stage name) (after_all image hs)
   -- and from TargetDone on its commit is made, and nothing else
   pub committed : name ≡ TargetDone → ok → after_all image hs ≡ committed_image image op
-  -- for want of memory the commit wasn't tried
-  pub untried : name ≡ TargetDone → memory → hs ≡ []
+  -- from each stage up to the commit, where it is one at most, none was tried for want of memory
+  pub untried : most_tries name ≡ 1 → memory → hs ≡ []
 
 abbrev pub Advances : Op → StageName → Type 0 → Type 0 → Image → List Happening → Type 0
 Advances op name ok memory image hs = Sound image → AtStage op name image → HasAdvanced op name ok memory image hs

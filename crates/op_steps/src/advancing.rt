@@ -39,7 +39,7 @@ fn step_on<W: World>(
 ///
 /// The stage is the operation's own. It is spent, after a fault too: then the operation is abandoned, and to undo it does
 /// the rest, where its log row still stands. `Store`: a store refused; what was tried last is made or not made. `Memory`:
-/// from TargetDone the commit wasn't tried; settling may be made at the first site.
+/// up to the commit nothing was tried; settling may be made at the first site.
 pub fn advance<W: World>(
     alloc: Global,
     world: &mut W,

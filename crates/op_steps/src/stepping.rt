@@ -7,7 +7,7 @@ ghost use Rattle.cell_world.specs.Sound.{Sound};
 ghost use Rattle.cell_world.specs.Texts.{Text};
 ghost use Rattle.cell_world.specs.UnderWay.{IsUnderWay};
 ghost use Rattle.op_steps.specs.Advancing.{Marks, sites_with};
-ghost use Rattle.op_steps.specs.Passing.{Passes};
+ghost use Rattle.op_steps.specs.Passing.{FailsByMemory, Passes};
 ghost use Rattle.op_steps.specs.Undoing.{IsOwnAt, IsOwnSite};
 
 use crate::commits::commit;
@@ -25,7 +25,7 @@ fn mark_at<W: World>(
     op: &Op,
     location: &Location,
 ) -> Result<(), StepFault>
-    ensures passes { Passes (λ image hs. (sites : List Text) → Sound image → IsUnderWay image op.now sites → IsOwnSite op.now location.now image → (IsOneOf sites location.now → ⊥) → Marks op.now (location.now ∷ sites) (IsOk result) image hs) (W.outside world.old) (W.outside world.new) }
+    ensures passes { Passes (λ image hs. (sites : List Text) → Sound image → IsUnderWay image op.now sites → IsOwnSite op.now location.now image → (IsOneOf sites location.now → ⊥) → Marks op.now (location.now ∷ sites) (IsOk result) (FailsByMemory result) image hs) (W.outside world.old) (W.outside world.new) }
     ensures cause { IsErrOf result StepFault.Store → StoreRoseBy 1 (W.outside world.old) (W.outside world.new) }
 {
     let Some(site) = world.locate(location) else {
@@ -46,7 +46,7 @@ pub fn mark_beside<W: World>(
     piece: &Option<Piece>,
     done: &Option<Piece>,
 ) -> Result<(), StepFault>
-    ensures passes { Passes (λ image hs. Sound image → IsUnderWay image op.now (locations_of (option_to_list done.now)) → IsOwnAt op.now piece.now image → Marks op.now (sites_with piece.now done.now) (IsOk result) image hs) (W.outside world.old) (W.outside world.new) }
+    ensures passes { Passes (λ image hs. Sound image → IsUnderWay image op.now (locations_of (option_to_list done.now)) → IsOwnAt op.now piece.now image → Marks op.now (sites_with piece.now done.now) (IsOk result) (FailsByMemory result) image hs) (W.outside world.old) (W.outside world.new) }
     ensures cause { IsErrOf result StepFault.Store → StoreRoseBy 1 (W.outside world.old) (W.outside world.new) }
 {
     match (piece, done) {

@@ -6,7 +6,7 @@ returns-in-None-default-clause-passes g c = no_mark c.args.op.now c.args.piece.n
 
 pub returns-in-Some-None-clause-passes : goal.returns-in-Some-None-clause-passes
 returns-in-Some-None-clause-passes g c =
-    mark_first c.args.op.now c.args.piece.now c.args.done.now c.in-Some-None.piece _ (g.W.World.outside c.args.world.now) (g.W.World.outside c.mark_at.new.world) c.in-Some-None.is-0 c.in-Some-None.is-1 c.mark_at.ensures.passes
+    mark_first c.args.op.now c.args.piece.now c.args.done.now c.in-Some-None.piece _ _ (g.W.World.outside c.args.world.now) (g.W.World.outside c.mark_at.new.world) c.in-Some-None.is-0 c.in-Some-None.is-1 c.mark_at.ensures.passes
 
 pub returns-then-is_eq-clause-passes : goal.returns-then-is_eq-clause-passes
 returns-then-is_eq-clause-passes g c =
@@ -14,4 +14,4 @@ returns-then-is_eq-clause-passes g c =
 
 pub returns-else-is_eq-clause-passes : goal.returns-else-is_eq-clause-passes
 returns-else-is_eq-clause-passes g c =
-    mark_other c.args.op.now c.args.piece.now c.args.done.now c.in-Some-Some.piece c.in-Some-Some.done _ (g.W.World.outside c.args.world.now) (g.W.World.outside c.mark_at-else-is_eq.new.world) c.in-Some-Some.is-0 c.in-Some-Some.is-1 (cc) c.mark_at-else-is_eq.ensures.passes
+    mark_other c.args.op.now c.args.piece.now c.args.done.now c.in-Some-Some.piece c.in-Some-Some.done _ _ (g.W.World.outside c.args.world.now) (g.W.World.outside c.mark_at-else-is_eq.new.world) c.in-Some-Some.is-0 c.in-Some-Some.is-1 (cc) c.mark_at-else-is_eq.ensures.passes
