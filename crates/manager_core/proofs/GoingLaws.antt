@@ -1,5 +1,5 @@
 -- A command that is going goes on: its session has it live at a later stage, or its entry comes next.
-use Rattle.std.proofs.Common.{◌≡◌, ℕ, true, inl, refl, sym, ◌∙◌, subst, Some, None}
+use Rattle.std.proofs.Common.{◌≡◌, ℕ, true, refl, sym, ◌∙◌, subst, Some, None}
 use Rattle.std.specs.Prelude.{Err}
 use Rattle.cell_world.specs.Outside.{Outside, StoreRoseBy}
 use Rattle.cell_world.specs.declared.operations.Op.{Op}
@@ -76,7 +76,7 @@ module _ (session : ℕ) (c : Command) (op : Op) (name : StageName) (long : is_l
 pub goes_nowhere : (session : ℕ) (c : Command) (op : Op) (name : StageName) → is_long_planned c ≡ true → IsForward name → (here : Outside) (answer : Answer) → answer.reply ≡ reply.Memory → (rests : AllDoing)
     → GoesFrom session c op name (Ended c answer op.number) rests rests here here
 goes_nowhere session c op name long forward here answer short rests =
-    goes_short session c op name long here here answer short rests (memory_moves here here op name (Err fault.Memory) (nothing_tried op name here) forward tt) (λ s d before is at steady. inl refl)
+    goes_short session c op name long here here answer short rests (memory_moves here here op name (Err fault.Memory) (nothing_tried op name here) forward tt) (λ s d before is at steady. refl)
 
 -- ---- whatever the session has going
 

@@ -80,6 +80,12 @@ tries_once Step TellsNothing new hs told one = inl (told ∙ nothing_told hs)
 tries_once Step (TellsContents image) new hs told one = one_told Step image (TellsContents image) new hs told (λ place change step. step) (is_one Step image hs one.0 one.1)
 tries_once Step (TellsTrail trail) new hs told one = one_told Step (image_at trail (end_of_trail trail)) (TellsTrail trail) new hs told (λ place change step. step) (is_one Step (image_at trail (end_of_trail trail)) hs one.0 one.1)
 
+-- where nothing was tried
+none_told : (old new : Told) (hs : List Happening) → new ≡ told_after_all old hs → IfContents old (λ image. hs ≡ []) → new ≡ old
+none_told TellsNothing new hs told none = told ∙ nothing_told hs
+none_told (TellsContents image) new hs told none = told ∙ ap (told_after_all (TellsContents image)) none
+none_told (TellsTrail trail) new hs told none = told ∙ ap (told_after_all (TellsTrail trail)) none
+
 -- ---- a command that adds a mapping replaces none
 
 none_added : (name location : Text) (span : Option Span) → (added name location span).0 ≡ []
@@ -113,13 +119,13 @@ few_from stage.TargetDone forward n few = few
 few_from stage.Committed forward n few = absurd forward
 few_from stage.Settled forward n few = absurd forward
 
--- for want of memory the commit wasn't tried
-course_of_memory : (op : Op) (ok memory : Type 0) → memory → (image : Image) (hs : List Happening) (name : StageName) → IsForward name → HasAdvanced op name ok memory image hs → IsCourse (StepsAt op) image hs
-course_of_memory op ok memory fails image hs stage.Logged forward a = a.course
-course_of_memory op ok memory fails image hs stage.SourceDone forward a = a.course
-course_of_memory op ok memory fails image hs stage.TargetDone forward a = subst (IsCourse (StepsAt op) image) (sym (a.untried refl fails)) tt
-course_of_memory op ok memory fails image hs stage.Committed forward a = absurd forward
-course_of_memory op ok memory fails image hs stage.Settled forward a = absurd forward
+-- for want of memory nothing was tried
+none_for_memory : (op : Op) (ok memory : Type 0) → memory → (image : Image) (hs : List Happening) (name : StageName) → IsForward name → HasAdvanced op name ok memory image hs → hs ≡ []
+none_for_memory op ok memory fails image hs stage.Logged forward a = a.untried refl fails
+none_for_memory op ok memory fails image hs stage.SourceDone forward a = a.untried refl fails
+none_for_memory op ok memory fails image hs stage.TargetDone forward a = a.untried refl fails
+none_for_memory op ok memory fails image hs stage.Committed forward a = absurd forward
+none_for_memory op ok memory fails image hs stage.Settled forward a = absurd forward
 
 pub early_forward : (name : StageName) → IsBeforeTarget name → IsForward name
 early_forward stage.Logged early = tt
@@ -158,9 +164,9 @@ module _ (old new : Outside) (op : Op) (name : StageName) (result : Result Stage
     fault_once = tries_once (AdvanceStep op) old.told new.told passes.happened passes.told (each (AtMostOne (AdvanceStep op) passes.happened)
         (λ image s at p. let a = p s.sound at in (course_from op name image passes.happened a.course, few_from name forward (length passes.happened) a.few)))
 
-    memory_once : FailsByMemory result → TriesOnce (StepsAt op) old.told new.told
-    memory_once fails = tries_once (StepsAt op) old.told new.told passes.happened passes.told (each (AtMostOne (StepsAt op) passes.happened)
-        (λ image s at p. let a = p s.sound at in (course_of_memory op (IsOk result) (FailsByMemory result) fails image passes.happened name forward a, few_from name forward (length passes.happened) a.few)))
+    memory_once : FailsByMemory result → new.told ≡ old.told
+    memory_once fails = none_told old.told new.told passes.happened passes.told (each (λ image. passes.happened ≡ [])
+        (λ image s at p. none_for_memory op (IsOk result) (FailsByMemory result) fails image passes.happened name forward (p s.sound at)))
 
   pub steps_once : IsBeforeTarget name → has_step op name ≡ true → IsOk result → (next : Stage) → MovesOnce op name (moved.On next) old new
   steps_once early step ok next session c before long is steady = step_once (early_forward name early) session c before is steady (adds c long) early step ok

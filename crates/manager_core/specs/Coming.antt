@@ -255,11 +255,11 @@ pub record TriesStep (Step : Image → Place → List Edit → Type 0) (old new 
 abbrev pub TriesOnce : (Image → Place → List Edit → Type 0) → Told → Told → Type 0
 TriesOnce Step old new = (new ≡ old) ⊎ TriesStep Step old new
 
--- its step; or its commit; or what failed
+-- its step; or its commit; or nothing, for want of memory; or what failed
 abbrev pub HappensGoing : Op → Option Reply → Told → Told → Type 0
 HappensGoing op None old new = MakesStep op old new
 HappensGoing op (Some reply.Ok) old new = new ≡ told_after old (Committed Global (commit_edits op) true)
-HappensGoing op (Some reply.Memory) old new = TriesOnce (StepsAt op) old new
+HappensGoing op (Some reply.Memory) old new = new ≡ old
 HappensGoing op (Some other) old new = TriesOnce (AdvanceStep op) old new
 
 abbrev pub BecomesGone : ℕ → Command → Op → StageName → Came → Known → AllDoing → AllDoing → Outside → Outside → Type 0

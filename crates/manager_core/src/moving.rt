@@ -104,7 +104,7 @@ fn move_from_logged<W: World>(alloc: Global, world: &mut W, op: &Op, stage: Stag
 /// operation alone decides; so over steady stores an answer without an error is one transaction.
 ///
 /// `On`: its local step is made. `Done`: it is committed. `Store`: a store refused, and what was tried is made or not; the
-/// operation is abandoned. `Memory`: the commit wasn't tried; it is abandoned.
+/// operation is abandoned. `Memory`: nothing was tried; it is abandoned.
 pub fn move_on<W: World>(alloc: Global, world: &mut W, op: &Op, stage: Stage) -> Moved
     requires { IsForward (name_of stage) }
     ensures onward { IsOnward (name_of stage) result }
