@@ -16,9 +16,9 @@ use Rattle.cell_world.specs.declared.cells.Mark.TheVariants.{New}
 
 -- ---- at one site
 
--- Unborn, as a site is before the operation's local step: no row is named by the operation.
+-- Unborn, as a site is before the operation's local step: no row is named by the operation, and none is Old of it.
 abbrev pub IsUnborn : ℕ → Locals → Type 0
-IsUnborn number locals = (row : LocalRow) → HasLocal locals row → row.number ≢ number
+IsUnborn number locals = (row : LocalRow) → HasLocal locals row → (row.number ≢ number) × (IsOld number row → ⊥)
 
 -- the row that the operation's local step makes of a new mapping
 abbrev pub new_row : ℕ → Piece → LocalRow

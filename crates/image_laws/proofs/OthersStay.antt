@@ -73,10 +73,13 @@ done_born p q location before after ne apart born done = record {
   made = λ n among there. elim (born.kept (new_row p.number n) (done.made n among there)) [ inl e ↦ absurd (ne e) | inr h ↦ h ];
 }
 
+new_not_old : (p : ℕ) → New ≡ Old p → ⊥
+new_not_old p e = absurd (cc)
+
 pub unborn_born : (p q : ℕ) (location : Text) (news : List Piece) (before after : Locals) → p ≢ q → AreBorn q location news before after → IsUnborn p before → IsUnborn p after
-unborn_born p q location news before after ne born u row h e = elim (born.back row h) [
-  | inl b ↦ ne (sym e ∙ ap (λ (x : LocalRow). x.number) b.3)
-  | inr was ↦ u row was e
+unborn_born p q location news before after ne born u row h = elim (born.back row h) [
+  | inl b ↦ (λ named. ne (sym named ∙ ap (λ (x : LocalRow). x.number) b.3), λ old. new_not_old p (sym (ap (λ (x : LocalRow). x.mark) b.3) ∙ old))
+  | inr was ↦ u row was
 ]
 
 -- a settled row was there, but for its mark, and had another one only where it was New of q
@@ -133,8 +136,12 @@ module _ (q : ℕ) (before after : Locals) (settled : IsSettled q before after) 
       ]
 
   pub unborn_settled : (p : ℕ) → IsUnborn p before → IsUnborn p after
-  unborn_settled p u row h e = let b = settle_row row h in by b.0 b.1 b.2
+  unborn_settled p u row h = let b = settle_row row h in (λ named. by named b.0 b.1 b.2, λ old. by_mark old b.0 b.1 b.2)
     where
-      by : (was : LocalRow) → HasLocal before was → (row ≡ was) ⊎ ((row ≡ marked_as Plain was) × (was.mark ≡ New) × (was.number ≡ q)) → ⊥
-      by was h (inl f) = u was h (ap (λ (x : LocalRow). x.number) (sym f) ∙ e)
-      by was h (inr f) = u was h (ap (λ (x : LocalRow). x.number) (sym f.0) ∙ e)
+      by : row.number ≡ p → (was : LocalRow) → HasLocal before was → (row ≡ was) ⊎ ((row ≡ marked_as Plain was) × (was.mark ≡ New) × (was.number ≡ q)) → ⊥
+      by e was h (inl f) = (u was h).0 (ap (λ (x : LocalRow). x.number) (sym f) ∙ e)
+      by e was h (inr f) = (u was h).0 (ap (λ (x : LocalRow). x.number) (sym f.0) ∙ e)
+
+      by_mark : row.mark ≡ Old p → (was : LocalRow) → HasLocal before was → (row ≡ was) ⊎ ((row ≡ marked_as Plain was) × (was.mark ≡ New) × (was.number ≡ q)) → ⊥
+      by_mark e was h (inl f) = (u was h).1 (ap (λ (x : LocalRow). x.mark) (sym f) ∙ e)
+      by_mark e was h (inr f) = let g : Plain ≡ Old p = ap (λ (x : LocalRow). x.mark) (sym f.0) ∙ e in absurd (cc)

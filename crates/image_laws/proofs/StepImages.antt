@@ -33,7 +33,7 @@ use Rattle.image_laws.proofs.MarkingLaws.{marked_from_done}
 use Rattle.image_laws.proofs.Places.{old_attached, new_attached}
 use Rattle.cell_world.proofs.MappingLaws.{sound_mappings}
 use Rattle.image_laws.proofs.SoundParts.{are_logged}
-use Rattle.image_laws.proofs.StepLaws.{old_is_sweep, plain_is_sweep, swept_locals, swept_online, born_locals, born_online, unborn_swept, settled_locals, settled_online}
+use Rattle.image_laws.proofs.StepLaws.{old_is_sweep, plain_is_sweep, swept_locals, swept_online, born_locals, born_online, unnamed_swept, settled_locals, settled_online}
 use Rattle.image_laws.proofs.UndoLaws.{IsFree, free_cleared, free_elsewhere, unlogged_locals, unlogged_online}
 
 module _ (image : Image) (sound : Sound image) (op : Op) (logged : HasLog (global image).log op) where
@@ -64,7 +64,7 @@ module _ (image : Image) (sound : Sound image) (op : Op) (logged : HasLog (globa
       let swept = stepped.swept in
       let born = stepped.born in
       let k = old_is_sweep g.log op logged in
-      let free = unborn_swept g.log op (Old op.number) (locals l) middle op.number swept unborn in
+      let free = unnamed_swept g.log op (Old op.number) (locals l) middle op.number swept (λ row has. (unborn row has).0) in
       let s = sound.locals l here in
       let s1 = swept_locals g.maps g.mappings g.log (next_operation image) op fit logged numbered l (Old op.number) k (locals l) middle swept s in
       let o1 = swept_online g.maps g.mappings g.log (next_operation image) op fit logged numbered l (owner_of image) (Old op.number) k (locals l) middle swept s (sound.online l here) in

@@ -31,6 +31,10 @@ use Rattle.image_laws.proofs.ExchangeLaws.{HaveOwnKeys}
 use Rattle.image_laws.proofs.FitLaws.{unowned_before, old_owned}
 use Rattle.image_laws.proofs.Remarks.{bare, IsLike, same_key, Remark, Same, To, IsRemarked, like, remarked_locals, remarked_online}
 
+-- no row is named by the operation, which is what its news need
+abbrev pub IsUnnamed : ℕ → Locals → Type 0
+IsUnnamed number locals = (row : LocalRow) → HasLocal locals row → row.number ≢ number
+
 -- ---- a sweep
 
 -- what a swept row was
@@ -141,7 +145,7 @@ module _ (maps : Maps) (mappings : Mappings) (log : Log) (next : ℕ) (op : Op) 
   birth_uncounted : (row : LocalRow) → IsBirth row → counts log row ≡ true → ⊥
   birth_uncounted row b c = uncounted_new row (ap (λ (r : LocalRow). r.mark) b.3) (ap (λ (r : LocalRow). r.number) b.3) c
 
-  module _ (before after : Locals) (born : AreBorn op.number location (listed op.news) before after) (unborn : IsUnborn op.number before) where
+  module _ (before after : Locals) (born : AreBorn op.number location (listed op.news) before after) (unborn : IsUnnamed op.number before) where
     old_row : (row : LocalRow) → HasLocal after row → counts log row ≡ true → HasLocal before row
     old_row row h c = elim (born.back row h) [ inl b ↦ absurd (birth_uncounted row b c) | inr was ↦ was ]
 
@@ -210,10 +214,28 @@ stepped_done log op location before middle after swept born = record {
     by was row (Out m e) h = absurd (true≢false (sym h ∙ ap (reaches op) e ∙ m))
 
 -- a sweep keeps that no row is named by an operation
-pub unborn_swept : (log : Log) (op : Op) (to : Mark) (before after : Locals) (p : ℕ) → IsSwept log op to before after → IsUnborn p before → IsUnborn p after
-unborn_swept log op to before after p swept u row h e =
+pub unnamed_swept : (log : Log) (op : Op) (to : Mark) (before after : Locals) (p : ℕ) → IsSwept log op to before after → IsUnnamed p before → IsUnnamed p after
+unnamed_swept log op to before after p swept u row h e =
     let b = swept_back log op to before after swept row h in
     u b.0 b.1 (ap (λ (r : LocalRow). r.number) (sym (swept_like log op to b.0 row b.2)) ∙ e)
+
+-- the mark of another operation
+pub other_mark : (p q : ℕ) → p ≢ q → Old q ≢ Old p
+other_mark p q ne e = let is : q ≡ p = cc in ne (sym is)
+
+pub plain_not_old : (p : ℕ) → Plain ≢ Old p
+plain_not_old p e = absurd (cc)
+
+-- and that none is Old of it, where it doesn't mark them so
+pub unborn_swept : (log : Log) (op : Op) (to : Mark) (before after : Locals) (p : ℕ) → to ≢ Old p → IsSwept log op to before after → IsUnborn p before → IsUnborn p after
+unborn_swept log op to before after p other swept u row h = (
+  unnamed_swept log op to before after p swept (λ was there. (u was there).0) row h,
+  λ old. let b = swept_back log op to before after swept row h in by b.0 row b.1 b.2 old,
+)
+  where
+    by : (was row : LocalRow) → HasLocal before was → Swept log op to was row → row.mark ≡ Old p → ⊥
+    by was row at (In m c e) old = other (sym (ap (λ (r : LocalRow). r.mark) e) ∙ old)
+    by was row at (Out m e) old = (u was at).1 (ap (λ (r : LocalRow). r.mark) (sym e) ∙ old)
 
 -- after undo's sweep the rows of the hull are Plain
 pub undone_cleared : (log : Log) (op : Op) (before after : Locals) → IsSwept log op Plain before after → IsSweptPlain op after

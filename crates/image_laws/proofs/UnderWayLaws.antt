@@ -1,6 +1,6 @@
 -- An operation under way: begin, step, and the stages.
-use Rattle.std.proofs.Common.{◌≡◌, ◌≢◌, ◌⊎◌, false, cond, refl, sym, ap, ◌∙◌, subst, None, inl, inr, true≢false, List, [], ◌∷◌, arith}
-use Rattle.std.specs.Prelude.{IsTrue}
+use Rattle.std.proofs.Common.{◌≡◌, ◌≢◌, ◌⊎◌, ℕ, false, cond, refl, sym, ap, ◌∙◌, subst, None, inl, inr, true≢false, List, [], ◌∷◌, arith}
+use Rattle.std.specs.Prelude.{IsTrue, nat_lt}
 use Rattle.std.specs.FinMap as map
 use Rattle.std.proofs.lemmas.Option.{same_Some, none-some}
 use Rattle.std.proofs.lemmas.Bool.{cases_Bool}
@@ -13,7 +13,7 @@ use Rattle.cell_world.specs.Images.{Image, Global, Shard, global, with_store}
 use Rattle.cell_world.specs.Plain.{is_attached}
 use Rattle.cell_world.specs.Meaning.{next_operation, owner_of}
 use Rattle.cell_world.specs.Lawful.{HasShape, Cuts}
-use Rattle.cell_world.specs.Sound.{Sound, HasLog, HasLocal, IsAttachedIn, IsOwnedBy, IsComing, IsKeyOf, locals_at}
+use Rattle.cell_world.specs.Sound.{Sound, HasLog, HasLocal, IsAttachedIn, IsOwnedBy, IsComing, IsKeyOf, locals_at, mark_below}
 use Rattle.cell_world.specs.declared.operations.Op.{Op}
 use Rattle.cell_world.specs.declared.operations.Piece.{Piece}
 use Rattle.cell_world.specs.declared.cells.LocalRow.{LocalRow}
@@ -151,13 +151,21 @@ under_way_global image op sites w g logged away = record {
   unborn = λ l here out. w.unborn l (record { known = here.known; attached = subst (λ a. IsTrue (is_attached (map.get a l))) away here.attached }) out;
 }
 
+-- No row of an attached site is named by the next number, and none is Old of it: they are below the counter.
+pub next_unborn : (image : Image) → Sound image → (l : Text) → IsAttachedIn image l → IsUnborn (next_operation image) (locals_at image l)
+next_unborn image sound l here row has = (
+  λ e. let n = ((sound.locals l here).numbers row has).0 in omega (arith, n, e),
+  λ old. let n : IsTrue (nat_lt (next_operation image) (next_operation image)) = subst (λ m. IsTrue (mark_below (next_operation image) m)) old ((sound.locals l here).numbers row has).1 in true≢false (sym n ∙ not_below (next_operation image)),
+)
+  where
+    not_below : (n : ℕ) → nat_lt n n ≡ false
+    not_below n = grind arith
+
 -- When its log row was put, an operation with the next number is under way with no step made.
 pub begun : (image : Image) → Sound image → (op : Op) → op.number ≡ next_operation image → (g : Store) → HasLog g.log op → g.away ≡ (global image).away → IsUnderWay (with_store image Global g) op []
 begun image sound op number g logged away = record {
   logged = logged;
   done = λ l h. absurd h;
-  unborn = λ l here out row h e.
-      let attached : IsAttachedIn image l = record { known = here.known; attached = subst (λ a. IsTrue (is_attached (map.get a l))) away here.attached } in
-      let n = ((sound.locals l attached).numbers row h).0 in
-      omega (arith, n, e, number);
+  unborn = λ l here out. subst (λ n. IsUnborn n (locals_at image l)) (sym number)
+      (next_unborn image sound l (record { known = here.known; attached = subst (λ a. IsTrue (is_attached (map.get a l))) away here.attached }));
 }

@@ -36,7 +36,7 @@ pub fn done_is_marked()
         ((new : Piece) → IsOneOf (listed op.news) new → IsDone op new.location (locals_at image new.location)) → Marked image op TargetDone }
 {}
 
-/// The next operation number names no row at an attached site.
+/// The next operation number names no row at an attached site, and none is Old of it.
 pub fn next_number_is_unborn()
     ensures { (image : Image) → Sound image → (location : Text) → IsAttachedIn image location → IsUnborn (next_operation image) (locals_at image location) }
 {}
@@ -50,9 +50,9 @@ pub fn others_stay_done()
     ensures settled { (op : Op) (number : ℕ) (location : Text) (before after : Locals) → IsSettled number before after → op.number ≢ number → IsDone op location before → IsDone op location after }
 {}
 
-/// No row gets the name of an operation while another one is swept, has its news put, or is settled there.
+/// No row gets the name or the mark of an operation while another one is swept, has its news put, or is settled there.
 pub fn others_stay_unborn()
-    ensures swept { (log : Log) (other : Op) (mark : Mark) (before after : Locals) (number : ℕ) → IsSwept log other mark before after → IsUnborn number before → IsUnborn number after }
+    ensures swept { (log : Log) (other : Op) (mark : Mark) (before after : Locals) (number : ℕ) → mark ≢ Old number → IsSwept log other mark before after → IsUnborn number before → IsUnborn number after }
     ensures born { (number other : ℕ) (location : Text) (news : List Piece) (before after : Locals) → number ≢ other → AreBorn other location news before after → IsUnborn number before → IsUnborn number after }
     ensures settled { (number other : ℕ) (before after : Locals) → IsSettled other before after → IsUnborn number before → IsUnborn number after }
 {}

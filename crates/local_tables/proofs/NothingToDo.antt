@@ -163,7 +163,7 @@ nothing_to_mark log op location locals keyed unborn = (forth, back)
         by : (row : LocalRow) → HasLocal locals row → (b : Bool) → reaches op row ≡ b → alters ToMark op row ≡ false
         by row has true t = ap (λ b. b && not (is_old_of op.number row.mark)) t ∙ elim (done.only row has t) [
           | inl old ↦ ap (λ m. not (is_old_of op.number m)) old ∙ ap not (mark_same op.number)
-          | inr new ↦ absurd (unborn row has new.1)
+          | inr new ↦ absurd ((unborn row has).0 new.1)
         ]
         by row has false t = ap (λ b. b && not (is_old_of op.number row.mark)) t
 
@@ -171,4 +171,4 @@ nothing_to_mark log op location locals keyed unborn = (forth, back)
         rows = altered_none locals keyed ToMark op (λ row has. by row has (reaches op row) refl)
 
         news : news_edits op.number location (listed op.news) ≡ []
-        news = news_none op.number location (listed op.news) (λ n among there. unborn (new_row op.number n) (done.made n among there) refl)
+        news = news_none op.number location (listed op.news) (λ n among there. (unborn (new_row op.number n) (done.made n among there)).0 refl)

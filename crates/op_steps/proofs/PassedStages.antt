@@ -7,9 +7,12 @@ use Rattle.std.proofs.lemmas.Option.{none-some}
 use Rattle.cell_world.specs.Images.{Image, Place, Happening, Committed, Wrote, Reopened, global, after_all}
 use Rattle.cell_world.specs.Keys.{same}
 use Rattle.cell_world.specs.Lists.{IsOneOf}
+use Rattle.cell_world.specs.Marked.{HasMarked, IsOld}
+use Rattle.cell_world.specs.Meaning.{next_operation}
 use Rattle.cell_world.specs.Operations.{locations_of}
 use Rattle.cell_world.specs.Outside.{Outside}
-use Rattle.cell_world.specs.Sound.{Sound, locals_at}
+use Rattle.cell_world.specs.Sound.{HasLog, Sound, locals_at}
+use Rattle.cell_world.specs.Spelled.{listed}
 use Rattle.cell_world.specs.UnderWay.{IsDone, IsUnborn, IsUnderWay, new_row}
 use Rattle.cell_world.specs.declared.changes.Edit.{Edit}
 use Rattle.cell_world.specs.declared.operations.Op.{Op}
@@ -17,16 +20,20 @@ use Rattle.cell_world.specs.declared.operations.Piece.{Piece}
 use Rattle.cell_world.specs.declared.operations.StageName.{StageName}
 use Rattle.cell_world.specs.declared.operations.StageName.TheVariants as stage
 use Rattle.cell_world.proofs.ContentsLaws.{contents_all}
+use Rattle.cell_world.proofs.ListLaws.{all_at}
+use Rattle.cell_world.proofs.MappingLaws.{sound_mappings}
 use Rattle.cell_world.proofs.OutsideLaws.{later_same}
 use Rattle.cell_world.proofs.SpanLaws.{same_is, same_self}
 use Rattle.cell_world.proofs.StoreLaws.{get-remove_same}
+use Rattle.image_laws.proofs.MarkingLaws.{marked_from_done}
+use Rattle.image_laws.proofs.SoundParts.{are_logged}
 use Rattle.op_steps.specs.Passing.{IsCourse, Passes}
 use Rattle.op_steps.specs.PassingOver.{MakesOne, has_step, is_beside}
 use Rattle.op_steps.specs.Advancing.{Advances, AtStage, CommitsOp, StepsAt, most_tries, sites_with}
 use Rattle.op_steps.specs.Stages.{next_stage}
 use Rattle.op_steps.proofs.MarkLaws.{under_way_more}
 use Rattle.op_steps.proofs.Passes.{passes_none}
-use Rattle.op_steps.proofs.UndoLaws.{new_one, one_listed}
+use Rattle.op_steps.proofs.UndoLaws.{new_one, one_listed, own_one}
 
 -- ---- a stage without a step
 
@@ -88,10 +95,26 @@ made_one Step image (Wrote bytes ∷ []) course few other = absurd course.0
 made_one Step image (Reopened place cells ∷ []) course few other = absurd course.0
 made_one Step image (h ∷ g ∷ hs) course few other = absurd (omega (arith, few))
 
--- Where new rows are to be put at another site, none is there before, and they are afterwards.
+-- Where the old mappings are to be marked, none is there before, and each is afterwards; so it is with the new rows that are to be put at another site.
 module _ (op : Op) (image : Image) (sound : Sound image) where
+  -- an old mapping stands, so once the step is done at its site its row there is Old of the operation
+  old_rows : (piece : Piece) → op.olds.one ≡ Some piece → HasLog (global image).log op → IsUnborn op.number (locals_at image piece.location) → IsDone op piece.location (locals_at image piece.location) → ⊥
+  old_rows piece is logged unborn done =
+      let g = global image in
+      let here = locals_at image piece.location in
+      let marked = marked_from_done g.maps g.mappings (sound_mappings image sound) g.log (next_operation image) (are_logged image sound) op logged piece.location here (sound.locals piece.location (own_one image op sound logged piece is).here) done in
+      let row = all_at (λ (old : Piece). old.location ≡ piece.location → HasMarked here (IsOld op.number) old) (listed op.olds) marked.olds piece (one_listed op.olds.one op.olds.two piece is) refl in
+      (unborn row.0 row.1).1 row.3
+
+  marked_image : has_step op stage.Logged ≡ true → AtStage op stage.Logged image → AtStage op stage.SourceDone image → ⊥
+  marked_image step w v = by op.olds.one refl step v
+    where
+      by : (old : Option Piece) → op.olds.one ≡ old → is_beside old None ≡ true → IsUnderWay image op (locations_of (option_to_list old)) → ⊥
+      by None is step v = absurd cc
+      by (Some piece) is step v = old_rows piece is w.logged (w.unborn piece.location (own_one image op sound w.logged piece is).here (λ m. m)) (v.done piece.location (inl refl))
+
   new_rows : (piece : Piece) → op.news.one ≡ Some piece → IsUnborn op.number (locals_at image piece.location) → IsDone op piece.location (locals_at image piece.location) → ⊥
-  new_rows piece is unborn done = unborn (new_row op.number piece) (done.made piece (one_listed op.news.one op.news.two piece is) refl) refl
+  new_rows piece is unborn done = (unborn (new_row op.number piece) (done.made piece (one_listed op.news.one op.news.two piece is) refl)).0 refl
 
   another_image : has_step op stage.SourceDone ≡ true → AtStage op stage.SourceDone image → AtStage op stage.TargetDone image → ⊥
   another_image step w v = by op.news.one op.olds.one refl step w v
@@ -104,6 +127,11 @@ module _ (op : Op) (image : Image) (sound : Sound image) where
       by None old is step w v = absurd cc
       by (Some piece) None is step w v = new_rows piece is (w.unborn piece.location (new_one image op sound w.logged piece is).here (λ m. m)) (v.done piece.location (inl refl))
       by (Some piece) (Some done) is step w v = new_rows piece is (w.unborn piece.location (new_one image op sound w.logged piece is).here (apart piece done step)) (v.done piece.location (inl refl))
+
+  pub logged_makes : AtStage op stage.Logged image → has_step op stage.Logged ≡ true → (ok memory : Type 0) → ok → (hs : List Happening) → Advances op stage.Logged ok memory image hs → MakesOne (StepsAt op) image hs
+  logged_makes w step ok memory done hs advances =
+      let a = advances sound w in
+      made_one (StepsAt op) image hs a.course a.few (λ same. marked_image step w (subst (AtStage op stage.SourceDone) same (a.reached done)))
 
   pub source_makes : AtStage op stage.SourceDone image → has_step op stage.SourceDone ≡ true → (ok memory : Type 0) → ok → (hs : List Happening) → Advances op stage.SourceDone ok memory image hs → MakesOne (StepsAt op) image hs
   source_makes w step ok memory done hs advances =

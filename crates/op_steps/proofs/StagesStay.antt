@@ -29,7 +29,7 @@ use Rattle.image_laws.specs.LocalSteps.{with_locals}
 use Rattle.image_laws.proofs.NoMarks.{Undo, Step, none_swept, none_born, none_settled}
 use Rattle.image_laws.proofs.OthersStay.{done_swept, done_born, done_settled, unborn_born, unborn_settled}
 use Rattle.image_laws.proofs.SoundParts.{are_logged, births_apart}
-use Rattle.image_laws.proofs.StepLaws.{unborn_swept}
+use Rattle.image_laws.proofs.StepLaws.{unborn_swept, other_mark, plain_not_old}
 use Rattle.image_laws.proofs.UnderWayLaws.{under_way_local, locals_here, locals_elsewhere}
 use Rattle.op_log.specs.ShortChanges.{ShortChange, Catalog, Unshard, Retoken, PutRow, DeleteRow}
 use Rattle.op_log.specs.JobSiteChanges.{JobSiteChange, BeginJob, FinishJob, Detach}
@@ -122,7 +122,7 @@ module _ (op other : Op) (name : StageName) (image : Image) (place : Place) (cha
   pub advance_leaves : AdvanceStep other image place change → AtStage op name (changed_at image place change)
   advance_leaves (Stepping s) = subst (AtStage op name) (sym s.is) (stage_local op image s.location s.last
       (λ logged done. done_born op other s.location s.stepped.middle s.last turned (births_apart image sound op other logged s.logged turned) s.stepped.born (swept_done image sound op other ne s.logged s.location s.site.here logged (Old other.number) s.stepped.middle s.stepped.swept done))
-      (λ unborn. unborn_born op.number other.number s.location _ s.stepped.middle s.last turned s.stepped.born (unborn_swept (global image).log other (Old other.number) (locals_at image s.location) s.stepped.middle op.number s.stepped.swept unborn))
+      (λ unborn. unborn_born op.number other.number s.location _ s.stepped.middle s.last turned s.stepped.born (unborn_swept (global image).log other (Old other.number) (locals_at image s.location) s.stepped.middle op.number (other_mark op.number other.number turned) s.stepped.swept unborn))
       (λ clean. none_born op other.number ne s.location _ s.stepped.middle s.last s.stepped.born (none_swept op other (global image).log (Old other.number) (Step other.number refl ne) (locals_at image s.location) s.stepped.middle s.stepped.swept clean))
       name at)
   advance_leaves (Committing c) = subst (AtStage op name) (sym c.is) (stage_global op image _ (λ x now. now) removed (removed_none image op other) (λ lt. lt) name at)
@@ -135,7 +135,7 @@ module _ (op other : Op) (name : StageName) (image : Image) (place : Place) (cha
   pub undo_leaves : UndoStep other image place change → AtStage op name (changed_at image place change)
   undo_leaves (AtSite u) = subst (AtStage op name) (sym u.is) (stage_local op image u.location u.last
       (λ logged done. swept_done image sound op other ne u.logged u.location u.site.here logged Plain u.last u.swept done)
-      (λ unborn. unborn_swept (global image).log other Plain (locals_at image u.location) u.last op.number u.swept unborn)
+      (λ unborn. unborn_swept (global image).log other Plain (locals_at image u.location) u.last op.number (plain_not_old op.number) u.swept unborn)
       (λ clean. none_swept op other (global image).log Plain (Undo refl) (locals_at image u.location) u.last u.swept clean)
       name at)
   undo_leaves (LogRow d) = subst (AtStage op name) (sym d.is) (stage_global op image _ (λ x now. now) removed (removed_none image op other) (λ lt. lt) name at)

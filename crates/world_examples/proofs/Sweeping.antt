@@ -14,7 +14,7 @@ use Rattle.cell_world.specs.Sweep.{reaches, sweep, IsSwept}
 use Rattle.cell_world.specs.UnderWay.{IsUnborn, IsDone}
 use Rattle.cell_world.specs.UnderWay as under
 use Rattle.cell_world.specs.declared.cells.LocalRow.{LocalRow}
-use Rattle.cell_world.specs.declared.cells.Mark.TheVariants.{Old}
+use Rattle.cell_world.specs.declared.cells.Mark.TheVariants.{Plain, Old, New}
 use Rattle.cell_world.proofs.ListLaws.{all_at}
 use Rattle.world_examples.specs.Examples.{site_a, site_b, log_of, locals_of}
 use Rattle.world_examples.specs.Sounds.{move_logged}
@@ -47,9 +47,9 @@ old_in (Some row) = old_number row.mark
 -- ---- done or not
 
 module _ (rows : List LocalRow) (sorted : T (is_sorted local_cmp (keyed_locals rows))) where
-  -- the rows have other numbers
-  pub unborn : AllByRecursion (λ e. e.1.number ≢ 1) (keyed_locals rows) → IsUnborn 1 (locals_of rows)
-  unborn all row h = each_row rows sorted (λ row. row.number ≢ 1) all row h
+  -- the rows have other numbers, and none is Old of 1
+  pub unborn : AllByRecursion (λ e. (e.1.number ≢ 1) × (IsOld 1 e.1 → ⊥)) (keyed_locals rows) → IsUnborn 1 (locals_of rows)
+  unborn all row h = each_row rows sorted (λ row. (row.number ≢ 1) × (IsOld 1 row → ⊥)) all row h
 
   -- done at the source, which gets no new mapping
   pub done_at_source : AllByRecursion (λ e. IsTrue (reaches move_logged e.1) → IsOld 1 e.1 ⊎ IsNew 1 e.1) (keyed_locals rows) → IsDone move_logged site_a (locals_of rows)
@@ -71,3 +71,12 @@ done_at_target = record {
 
 pub zero_not_one : ◌≡◌ {A = ℕ} 0 1 → ⊥
 zero_not_one e = omega arith
+
+pub two_not_one : ◌≡◌ {A = ℕ} 2 1 → ⊥
+two_not_one e = omega arith
+
+pub plain_not_old : Plain ≡ Old 1 → ⊥
+plain_not_old e = absurd (cc)
+
+pub new_not_old : New ≡ Old 1 → ⊥
+new_not_old e = absurd (cc)

@@ -48,12 +48,14 @@ pub fn rows_swept_plain()
 
 // ---- at one site
 
-/// Unborn: no row has its number, whatever the mark and the span.
+/// Unborn: no row has its number, whatever the mark and the span, and none is Old of it.
 pub fn rows_unborn()
     ensures accepted { IsUnborn 1 (locals_of (local_row 0 5 0 Offline Plain ∷ local_row 5 9 2 Online New ∷ [])) }
     ensures new { IsUnborn 1 (locals_of (local_row 0 5 1 Offline New ∷ [])) → ⊥ }
     ensures plain { IsUnborn 1 (locals_of (local_row 5 9 1 Online Plain ∷ [])) → ⊥ }
     ensures old_of_another { IsUnborn 1 (locals_of (local_row 5 9 1 Online (Old 2) ∷ [])) → ⊥ }
+    ensures old { IsUnborn 1 (locals_of (local_row 0 5 0 Offline (Old 1) ∷ [])) → ⊥ }
+    ensures marked_by_another { IsUnborn 1 (locals_of (local_row 0 5 0 Offline (Old 2) ∷ [])) }
 {}
 
 /// Done: each row that overlaps the hull has its mark, and each new mapping of the site has its New row.

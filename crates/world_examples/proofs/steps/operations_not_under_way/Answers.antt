@@ -22,7 +22,7 @@ pub returns-clause-not_done : goal.returns-clause-not_done
 returns-clause-not_done c = λ h. not_done (local_row 0 5 0 Offline Plain ∷ []) tt site_a (local_row 0 5 0 Offline Plain) refl refl (λ e. zero_not_one (ap old_number e)) (λ e. true≢false (sym (ap is_new e.0))) (h.done site_a (inl refl))
 
 pub returns-clause-born_at_target : goal.returns-clause-born_at_target
-returns-clause-born_at_target c = λ h. h.unborn site_b b_attached not_among new_row (local_in (new_row ∷ []) tt new_row refl) refl
+returns-clause-born_at_target c = λ h. (h.unborn site_b b_attached not_among new_row (local_in (new_row ∷ []) tt new_row refl)).0 refl
 
 pub returns-clause-named_elsewhere : goal.returns-clause-named_elsewhere
-returns-clause-named_elsewhere c = λ h. h.unborn site_b b_attached (λ none. none) (local_row 5 9 1 Online Plain) (local_in (local_row 5 9 1 Online Plain ∷ []) tt (local_row 5 9 1 Online Plain) refl) refl
+returns-clause-named_elsewhere c = λ h. (h.unborn site_b b_attached (λ none. none) (local_row 5 9 1 Online Plain) (local_in (local_row 5 9 1 Online Plain ∷ []) tt (local_row 5 9 1 Online Plain) refl)).0 refl

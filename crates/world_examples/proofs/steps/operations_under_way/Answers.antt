@@ -1,4 +1,4 @@
-use Rattle.std.proofs.Common.{◌≡◌, ℕ, refl, inl, inr, ◌⊎◌, List, [], ◌∷◌, arith}
+use Rattle.std.proofs.Common.{◌≡◌, refl, inl, inr, ◌⊎◌, List, [], ◌∷◌}
 use Rattle.std.specs.Prelude.{IsTrue}
 use Rattle.std.specs.List.{AllByRecursion}
 use Rattle.cell_world.specs.Texts.{Text}
@@ -22,7 +22,7 @@ use Rattle.world_examples.proofs.Standing.{each_site}
 use Rattle.world_examples.proofs.ShortTables.{not_attached}
 use Rattle.world_examples.proofs.Marking.{old_row, new_row, in_log, each_row}
 use Rattle.world_examples.proofs.Logged.{offline_stands, new_there}
-use Rattle.world_examples.proofs.Sweeping.{unborn, done_at_source, done_at_target, zero_not_one}
+use Rattle.world_examples.proofs.Sweeping.{unborn, done_at_source, done_at_target, zero_not_one, plain_not_old, new_not_old, two_not_one}
 use Rattle.world_examples.proofs.steps.operations_under_way.Goals as goal
 
 -- an operation is under way, by what is so at each site of the two
@@ -38,7 +38,7 @@ abbrev plain_row : LocalRow
 plain_row = local_row 0 5 0 Offline Plain
 
 pub returns-clause-begun : goal.returns-clause-begun
-returns-clause-begun c = under_way (marks_with (move_logged ∷ []) 2 (plain_row ∷ []) []) move_logged [] in_log tt ((λ here apart. unborn (plain_row ∷ []) tt (zero_not_one, tt)), ((λ here apart. unborn [] tt tt), tt))
+returns-clause-begun c = under_way (marks_with (move_logged ∷ []) 2 (plain_row ∷ []) []) move_logged [] in_log tt ((λ here apart. unborn (plain_row ∷ []) tt ((zero_not_one, plain_not_old), tt)), ((λ here apart. unborn [] tt tt), tt))
 
 pub returns-clause-source : goal.returns-clause-source
 returns-clause-source c = under_way (marks_with (move_logged ∷ []) 2 (old_row ∷ []) []) move_logged (site_a ∷ []) in_log (done_at_source (old_row ∷ []) tt ((λ r. inl refl), tt), tt) ((λ here apart. absurd (apart (inl refl))), ((λ here apart. unborn [] tt tt), tt))
@@ -49,7 +49,7 @@ returns-clause-target c = under_way (marks_with (move_logged ∷ []) 2 (old_row 
 
 pub returns-clause-site_away : goal.returns-clause-site_away
 returns-clause-site_away c = under_way (record (marks_with (move_logged ∷ []) 2 (plain_row ∷ []) (local_row 5 9 1 Online Plain ∷ [])) { away = away_of ((site_b, Detached) ∷ []) }) move_logged [] in_log tt
-    ((λ here apart. unborn (plain_row ∷ []) tt (zero_not_one, tt)), ((λ here apart. absurd (not_attached ((site_b, Detached) ∷ []) tt site_b refl here)), tt))
+    ((λ here apart. unborn (plain_row ∷ []) tt ((zero_not_one, plain_not_old), tt)), ((λ here apart. absurd (not_attached ((site_b, Detached) ∷ []) tt site_b refl here)), tt))
 
 done_at_a : IsDone offline_logged site_a a_logged.locals
 done_at_a = record {
@@ -59,4 +59,4 @@ done_at_a = record {
 
 pub returns-clause-whole_image : goal.returns-clause-whole_image
 returns-clause-whole_image c = under_way (mark_tables image_logged) offline_logged (site_a ∷ []) offline_stands (done_at_a, tt)
-    ((λ here apart. absurd (apart (inl refl))), ((λ here apart. unborn (local_row 5 10 2 Online New ∷ []) tt ((λ e. let two : ◌≡◌ {A = ℕ} 2 1 = e in omega arith), tt)), tt))
+    ((λ here apart. absurd (apart (inl refl))), ((λ here apart. unborn (local_row 5 10 2 Online New ∷ []) tt ((two_not_one, new_not_old), tt)), tt))
