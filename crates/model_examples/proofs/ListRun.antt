@@ -13,7 +13,7 @@ use Rattle.plain_model.specs.declared.replies.Refusal.TheVariants as refused
 use Rattle.plain_model.specs.declared.replies.Reply.TheVariants as reply
 use Rattle.plain_model.specs.ByMoments.{RunsByMoments}
 use Rattle.plain_model.specs.Follows.{Follows}
-use Rattle.plain_model.specs.Headline.{whole, IsLegalHistory, OnlyWhatHappened, EachOnceInOrder}
+use Rattle.plain_model.specs.Headline.{IsLegalHistory, OnlyWhatHappened, EachOnceInOrder}
 use Rattle.plain_model.specs.Lines.{lines_of, refusal_text}
 use Rattle.plain_model.specs.Refusing.{refusal}
 use Rattle.plain_model.specs.Running.{Owing, text_of}
@@ -62,5 +62,5 @@ is_legal = record { going = λ session. None; left = λ session. record { none =
 pub only_this : OnlyWhatHappened (EachReply false) list_trail 0 (list_refused ∷ []) status.Refused
 only_this = record { written = runs.written; all = λ ran. is_written; last = inl is_written }
 
-pub once : EachOnceInOrder whole list_asked (list_refused ∷ []) status.Refused
+pub once : EachOnceInOrder list_asked (list_refused ∷ []) status.Refused
 once = serves (list_refused ∷ []) status.Refused (refl, tt)

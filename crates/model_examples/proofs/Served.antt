@@ -8,7 +8,7 @@ use Rattle.plain_model.specs.declared.commands.Command.{Command}
 use Rattle.plain_model.specs.declared.commands.Command.TheVariants as command
 use Rattle.plain_model.specs.declared.finish.RunStatus.{RunStatus}
 use Rattle.plain_model.specs.declared.history.Entry.{Entry}
-use Rattle.plain_model.specs.Headline.{script_of, answered_by, has_stopped, whole, InOrder, AllAnswered, EachOnceInOrder}
+use Rattle.plain_model.specs.Headline.{script_of, answered_by, has_stopped, InOrder, AllAnswered, EachOnceInOrder}
 use Rattle.world_examples.specs.Examples.{map_n}
 
 -- the commands of the entries
@@ -43,11 +43,11 @@ in_order stopped history later all = record {
 }
 
 -- a history of all of the script, whatever its status
-pub serves : (history : List Entry) (ending : RunStatus) → AllReplied history → EachOnceInOrder whole (asked_of history) history ending
+pub serves : (history : List Entry) (ending : RunStatus) → AllReplied history → EachOnceInOrder (asked_of history) history ending
 serves history ending all = record {
   in_order = subst (λ (script : List Asked). InOrder (has_stopped ending) script history) (append-nil (asked_of history)) (in_order (has_stopped ending) history [] all);
   all = λ done. all_served;
-  all_after_fault = λ goes failed fault. all_served;
+  all_after_fault = λ failed fault. all_served;
 }
   where
     all_served : AllAnswered (asked_of history) history

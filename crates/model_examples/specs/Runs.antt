@@ -1,5 +1,5 @@
 -- Values of small runs: their scripts, entries, trails and bytes, worlds, and causes of statuses.
-use Rattle.std.specs.Prelude.{◌≡◌, ℕ, true, false, ◌||◌, ◌==◌, List, [], ◌∷◌, ◌++◌, Some, codes, if◌then◌else◌}
+use Rattle.std.specs.Prelude.{◌≡◌, ℕ, true, false, ◌==◌, List, [], ◌∷◌, ◌++◌, Some, codes, if◌then◌else◌}
 use Rattle.std.specs.FinSet as set
 use Rattle.cell_world.specs.Texts.{Text}
 use Rattle.cell_world.specs.Stores.{Store, empty_store}
@@ -19,7 +19,7 @@ use Rattle.plain_model.specs.declared.replies.Refusal.TheVariants as refused
 use Rattle.plain_model.specs.declared.finish.Reason.TheVariants.{BadByte}
 use Rattle.plain_model.specs.declared.history.Entry.{Entry}
 use Rattle.plain_model.specs.Legal.{Going}
-use Rattle.plain_model.specs.Headline.{Manner, Causes, has_stopped, is_store_fault}
+use Rattle.plain_model.specs.Headline.{Causes}
 use Rattle.plain_model.specs.Worked.{small_range, local_row_over}
 use Rattle.model_examples.specs.Values.{make_map, answered, naming, silent, at_moment, trail_of, with_global, with_cells, local_cells}
 use Rattle.world_examples.specs.Examples.{map_m, map_n, site_a, site_b, maps_m, away_of}
@@ -60,10 +60,6 @@ asks session c = record { session = session; command = c }
 -- `map m` and then `map n`, of session 1
 abbrev pub two_asked : List Asked
 two_asked = asks 1 (make_map map_m) ∷ asks 1 (make_map map_n) ∷ []
-
--- the manner of a run that a `fault` ends, over stores that it doesn't look at first
-abbrev pub until_faults : Manner
-until_faults = record { stops = λ ending. has_stopped ending || is_store_fault ending; opens = false }
 
 -- the command is not answered, and has no operation
 abbrev pub going_at : Command → Going

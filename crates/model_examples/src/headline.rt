@@ -14,12 +14,12 @@ ghost use Rattle.plain_model.specs.declared.finish.Reason.TheVariants.{BadByte, 
 ghost use Rattle.plain_model.specs.declared.finish.RunStatus.TheVariants as status;
 ghost use Rattle.plain_model.specs.declared.replies.Refusal.TheVariants as refused;
 ghost use Rattle.plain_model.specs.declared.replies.Reply.TheVariants as reply;
-ghost use Rattle.plain_model.specs.Headline.{whole, LeavesUnknown, SoundAtEachMoment, IsLeftGoing, IsLegalHistory, OnlyWhatHappened, InOrder, EachOnceInOrder, EndsAnswered, EndsWithMemory, named_locations, IsFirstUnknown, StatusCause, ComesByInput, ComesByOpening, KeepsToStatus, StatusHasCause, GoesOnFrom, Headline, FollowsTo, IsLegalByStates, HeadlineAlone};
+ghost use Rattle.plain_model.specs.Headline.{LeavesUnknown, SoundAtEachMoment, IsLeftGoing, IsLegalHistory, OnlyWhatHappened, InOrder, EachOnceInOrder, EndsAnswered, EndsWithMemory, named_locations, IsFirstUnknown, StatusCause, ComesByInput, ComesByOpening, KeepsToStatus, StatusHasCause, GoesOnFrom, Headline, FollowsTo, IsLegalByStates, HeadlineAlone};
 ghost use Rattle.plain_model.specs.Written.{EachReply};
 ghost use Rattle.plain_model.specs.Worked.{small_range, mapping_over};
 ghost use Rattle.model_examples.specs.Values.{move_op, row_m, map_commit, image_m, map_trail, answered, make_map, two_sites, with_global, empty_state, with_map, at_moment, map_entry, second_entry, trail_of};
 ghost use Rattle.world_examples.specs.Examples.{job_at, map_m, map_n, site_a, site_b};
-ghost use Rattle.model_examples.specs.Runs.{nothing_done, list_trail, list_asked, list_refused, silent_step, ok_line, step_done, map_answered, asks, two_asked, until_faults, going_at, world_of, with_faults, with_sink_fault, nothing_wrong, wrong_words, wrong_line, too_many_bytes, source_failed, without_number, unknown_store, site_c, site_d};
+ghost use Rattle.model_examples.specs.Runs.{nothing_done, list_trail, list_asked, list_refused, silent_step, ok_line, step_done, map_answered, asks, two_asked, going_at, world_of, with_faults, with_sink_fault, nothing_wrong, wrong_words, wrong_line, too_many_bytes, source_failed, without_number, unknown_store, site_c, site_d};
 
 // ---- sound, legal, and written
 
@@ -83,59 +83,56 @@ pub fn silent_in_order()
 
 /// They are all of them where the status is 0 or 1, and where it is 5 and the history has a fault.
 pub fn each_once_in_order()
-    ensures done { EachOnceInOrder whole two_asked (map_entry ∷ second_entry ∷ []) status.Done }
-    ensures two_sessions { EachOnceInOrder whole (asks 1 (make_map map_m) ∷ asks 2 (command.List map_m) ∷ []) (answered 2 (command.List map_m) (reply.Refused refused.NoMap) ∷ map_entry ∷ []) status.Refused }
-    ensures stopped_at_a_write { EachOnceInOrder whole two_asked (map_entry ∷ []) status.WriteFault }
-    ensures opening_failed { EachOnceInOrder whole two_asked [] status.StoreFault }
-    ensures never_done_before_the_end { EachOnceInOrder whole two_asked (map_entry ∷ []) status.Done → ⊥ }
-    ensures never_refused_before_the_end { EachOnceInOrder whole two_asked (map_answered (reply.Refused refused.MapExists) ∷ []) status.Refused → ⊥ }
-    ensures never_a_fault_before_the_end { EachOnceInOrder whole two_asked (map_answered reply.Fault ∷ []) status.StoreFault → ⊥ }
-    ensures ended_by_a_fault { EachOnceInOrder until_faults two_asked (map_answered reply.Fault ∷ []) status.StoreFault }
-    ensures never_ended_by_a_refusal { EachOnceInOrder until_faults two_asked (map_answered (reply.Refused refused.MapExists) ∷ []) status.Refused → ⊥ }
+    ensures done { EachOnceInOrder two_asked (map_entry ∷ second_entry ∷ []) status.Done }
+    ensures two_sessions { EachOnceInOrder (asks 1 (make_map map_m) ∷ asks 2 (command.List map_m) ∷ []) (answered 2 (command.List map_m) (reply.Refused refused.NoMap) ∷ map_entry ∷ []) status.Refused }
+    ensures stopped_at_a_write { EachOnceInOrder two_asked (map_entry ∷ []) status.WriteFault }
+    ensures opening_failed { EachOnceInOrder two_asked [] status.StoreFault }
+    ensures never_done_before_the_end { EachOnceInOrder two_asked (map_entry ∷ []) status.Done → ⊥ }
+    ensures never_refused_before_the_end { EachOnceInOrder two_asked (map_answered (reply.Refused refused.MapExists) ∷ []) status.Refused → ⊥ }
+    ensures never_a_fault_before_the_end { EachOnceInOrder two_asked (map_answered reply.Fault ∷ []) status.StoreFault → ⊥ }
+    ensures all_after_a_fault { EachOnceInOrder two_asked (map_answered reply.Fault ∷ second_entry ∷ []) status.StoreFault }
 {}
 
 // ---- the status has its cause
 
 /// Status 0 or 1: by the replies.
 pub fn done_or_refused()
-    ensures done { StatusCause whole nothing_wrong (world_of TellsNothing) (world_of TellsNothing) (map_entry ∷ []) status.Done }
-    ensures never_done_with_a_refusal { StatusCause whole nothing_wrong (world_of TellsNothing) (world_of TellsNothing) (map_answered (reply.Refused refused.MapExists) ∷ []) status.Done → ⊥ }
-    ensures never_done_with_a_pending { StatusCause whole nothing_wrong (world_of TellsNothing) (world_of TellsNothing) (map_answered (reply.Pending 1) ∷ []) status.Done → ⊥ }
-    ensures never_done_with_a_fault { StatusCause whole nothing_wrong (world_of TellsNothing) (world_of TellsNothing) (map_answered reply.Fault ∷ []) status.Done → ⊥ }
-    ensures never_done_without_memory { StatusCause whole nothing_wrong (world_of TellsNothing) (world_of TellsNothing) (map_answered reply.Memory ∷ []) status.Done → ⊥ }
-    ensures refused { StatusCause whole nothing_wrong (world_of TellsNothing) (world_of TellsNothing) (map_entry ∷ map_answered (reply.Refused refused.MapExists) ∷ []) status.Refused }
-    ensures refused_by_pending { StatusCause whole nothing_wrong (world_of TellsNothing) (world_of TellsNothing) (map_answered (reply.Pending 1) ∷ []) status.Refused }
-    ensures never_refused_where_all_is_done { StatusCause whole nothing_wrong (world_of TellsNothing) (world_of TellsNothing) (map_entry ∷ []) status.Refused → ⊥ }
-    ensures never_refused_with_a_fault { StatusCause whole nothing_wrong (world_of TellsNothing) (world_of TellsNothing) (map_answered (reply.Pending 1) ∷ map_answered reply.Fault ∷ []) status.Refused → ⊥ }
+    ensures done { StatusCause nothing_wrong (world_of TellsNothing) (world_of TellsNothing) (map_entry ∷ []) status.Done }
+    ensures never_done_with_a_refusal { StatusCause nothing_wrong (world_of TellsNothing) (world_of TellsNothing) (map_answered (reply.Refused refused.MapExists) ∷ []) status.Done → ⊥ }
+    ensures never_done_with_a_pending { StatusCause nothing_wrong (world_of TellsNothing) (world_of TellsNothing) (map_answered (reply.Pending 1) ∷ []) status.Done → ⊥ }
+    ensures never_done_with_a_fault { StatusCause nothing_wrong (world_of TellsNothing) (world_of TellsNothing) (map_answered reply.Fault ∷ []) status.Done → ⊥ }
+    ensures never_done_without_memory { StatusCause nothing_wrong (world_of TellsNothing) (world_of TellsNothing) (map_answered reply.Memory ∷ []) status.Done → ⊥ }
+    ensures refused { StatusCause nothing_wrong (world_of TellsNothing) (world_of TellsNothing) (map_entry ∷ map_answered (reply.Refused refused.MapExists) ∷ []) status.Refused }
+    ensures refused_by_pending { StatusCause nothing_wrong (world_of TellsNothing) (world_of TellsNothing) (map_answered (reply.Pending 1) ∷ []) status.Refused }
+    ensures never_refused_where_all_is_done { StatusCause nothing_wrong (world_of TellsNothing) (world_of TellsNothing) (map_entry ∷ []) status.Refused → ⊥ }
+    ensures never_refused_with_a_fault { StatusCause nothing_wrong (world_of TellsNothing) (world_of TellsNothing) (map_answered (reply.Pending 1) ∷ map_answered reply.Fault ∷ []) status.Refused → ⊥ }
 {}
 
 /// Status 2, 3 or 7: by the words and the input.
 pub fn caused_by_input()
-    ensures words { StatusCause whole wrong_words (world_of TellsNothing) (world_of TellsNothing) [] (status.BadWords 2) }
-    ensures never_words_elsewhere { StatusCause whole wrong_words (world_of TellsNothing) (world_of TellsNothing) [] (status.BadWords 1) → ⊥ }
-    ensures script { StatusCause whole wrong_line (world_of TellsNothing) (world_of TellsNothing) [] (status.BadScript 3 BadByte) }
-    ensures never_another_line { StatusCause whole wrong_line (world_of TellsNothing) (world_of TellsNothing) [] (status.BadScript 1 BadByte) → ⊥ }
-    ensures never_another_reason { StatusCause whole wrong_line (world_of TellsNothing) (world_of TellsNothing) [] (status.BadScript 3 LongLine) → ⊥ }
-    ensures reading { StatusCause whole source_failed (world_of TellsNothing) (world_of TellsNothing) [] status.ReadFault }
-    ensures never_a_read_fault { StatusCause whole nothing_wrong (world_of TellsNothing) (world_of TellsNothing) [] status.ReadFault → ⊥ }
-    ensures length { StatusCause whole too_many_bytes (world_of TellsNothing) (world_of TellsNothing) [] status.TooLong }
-    ensures never_too_long { StatusCause whole nothing_wrong (world_of TellsNothing) (world_of TellsNothing) [] status.TooLong → ⊥ }
+    ensures words { StatusCause wrong_words (world_of TellsNothing) (world_of TellsNothing) [] (status.BadWords 2) }
+    ensures never_words_elsewhere { StatusCause wrong_words (world_of TellsNothing) (world_of TellsNothing) [] (status.BadWords 1) → ⊥ }
+    ensures script { StatusCause wrong_line (world_of TellsNothing) (world_of TellsNothing) [] (status.BadScript 3 BadByte) }
+    ensures never_another_line { StatusCause wrong_line (world_of TellsNothing) (world_of TellsNothing) [] (status.BadScript 1 BadByte) → ⊥ }
+    ensures never_another_reason { StatusCause wrong_line (world_of TellsNothing) (world_of TellsNothing) [] (status.BadScript 3 LongLine) → ⊥ }
+    ensures reading { StatusCause source_failed (world_of TellsNothing) (world_of TellsNothing) [] status.ReadFault }
+    ensures never_a_read_fault { StatusCause nothing_wrong (world_of TellsNothing) (world_of TellsNothing) [] status.ReadFault → ⊥ }
+    ensures length { StatusCause too_many_bytes (world_of TellsNothing) (world_of TellsNothing) [] status.TooLong }
+    ensures never_too_long { StatusCause nothing_wrong (world_of TellsNothing) (world_of TellsNothing) [] status.TooLong → ⊥ }
 {}
 
 /// Status 4 or 5: by the counts of faults. Status 6 needs nothing.
 pub fn caused_by_faults()
-    ensures writing { StatusCause whole nothing_wrong (world_of TellsNothing) (with_sink_fault (world_of TellsNothing)) (map_entry ∷ []) status.WriteFault }
-    ensures never_writing_without_a_rise { StatusCause whole nothing_wrong (world_of TellsNothing) (world_of TellsNothing) (map_entry ∷ []) status.WriteFault → ⊥ }
-    ensures never_writing_of_no_line { StatusCause whole nothing_wrong (world_of TellsNothing) (with_sink_fault (world_of TellsNothing)) (map_entry ∷ silent_step ∷ []) status.WriteFault → ⊥ }
-    ensures never_writing_of_nothing { StatusCause whole nothing_wrong (world_of TellsNothing) (with_sink_fault (world_of TellsNothing)) [] status.WriteFault → ⊥ }
-    ensures a_store { StatusCause whole nothing_wrong (world_of TellsNothing) (with_faults 1 (world_of TellsNothing)) (map_answered reply.Fault ∷ []) status.StoreFault }
-    ensures the_opening { StatusCause whole nothing_wrong (world_of TellsNothing) (with_faults 1 (world_of TellsNothing)) [] status.StoreFault }
-    ensures never_a_store_without_a_rise { StatusCause whole nothing_wrong (world_of TellsNothing) (world_of TellsNothing) (map_answered reply.Fault ∷ []) status.StoreFault → ⊥ }
-    ensures never_a_store_without_a_fault { StatusCause whole nothing_wrong (world_of TellsNothing) (with_faults 1 (world_of TellsNothing)) (map_entry ∷ []) status.StoreFault → ⊥ }
-    ensures a_store_unopened { StatusCause until_faults nothing_wrong (world_of TellsNothing) (with_faults 1 (world_of TellsNothing)) (map_answered reply.Fault ∷ []) status.StoreFault }
-    ensures never_the_opening_of_unopened { StatusCause until_faults nothing_wrong (world_of TellsNothing) (with_faults 1 (world_of TellsNothing)) [] status.StoreFault → ⊥ }
-    ensures never_a_store_without_memory { StatusCause whole nothing_wrong (world_of TellsNothing) (with_faults 1 (world_of TellsNothing)) (map_answered reply.Fault ∷ map_answered reply.Memory ∷ []) status.StoreFault → ⊥ }
-    ensures memory { StatusCause whole nothing_wrong (world_of TellsNothing) (world_of TellsNothing) (map_entry ∷ []) status.Memory }
+    ensures writing { StatusCause nothing_wrong (world_of TellsNothing) (with_sink_fault (world_of TellsNothing)) (map_entry ∷ []) status.WriteFault }
+    ensures never_writing_without_a_rise { StatusCause nothing_wrong (world_of TellsNothing) (world_of TellsNothing) (map_entry ∷ []) status.WriteFault → ⊥ }
+    ensures never_writing_of_no_line { StatusCause nothing_wrong (world_of TellsNothing) (with_sink_fault (world_of TellsNothing)) (map_entry ∷ silent_step ∷ []) status.WriteFault → ⊥ }
+    ensures never_writing_of_nothing { StatusCause nothing_wrong (world_of TellsNothing) (with_sink_fault (world_of TellsNothing)) [] status.WriteFault → ⊥ }
+    ensures a_store { StatusCause nothing_wrong (world_of TellsNothing) (with_faults 1 (world_of TellsNothing)) (map_answered reply.Fault ∷ []) status.StoreFault }
+    ensures the_opening { StatusCause nothing_wrong (world_of TellsNothing) (with_faults 1 (world_of TellsNothing)) [] status.StoreFault }
+    ensures never_a_store_without_a_rise { StatusCause nothing_wrong (world_of TellsNothing) (world_of TellsNothing) (map_answered reply.Fault ∷ []) status.StoreFault → ⊥ }
+    ensures never_a_store_without_a_fault { StatusCause nothing_wrong (world_of TellsNothing) (with_faults 1 (world_of TellsNothing)) (map_entry ∷ []) status.StoreFault → ⊥ }
+    ensures never_a_store_without_memory { StatusCause nothing_wrong (world_of TellsNothing) (with_faults 1 (world_of TellsNothing)) (map_answered reply.Fault ∷ map_answered reply.Memory ∷ []) status.StoreFault → ⊥ }
+    ensures memory { StatusCause nothing_wrong (world_of TellsNothing) (world_of TellsNothing) (map_entry ∷ []) status.Memory }
 {}
 
 /// And the status comes: first the words are looked at, then the source, then the script.
@@ -176,11 +173,10 @@ pub fn first_unknown()
 
 /// Status 8: by the stores.
 pub fn caused_by_opening()
-    ensures unknown { StatusCause whole nothing_wrong (world_of (TellsContents (with_global unknown_store))) (world_of (TellsContents (with_global unknown_store))) [] (status.UnknownLocation site_c) }
-    ensures never_the_second { StatusCause whole nothing_wrong (world_of (TellsContents (with_global unknown_store))) (world_of (TellsContents (with_global unknown_store))) [] (status.UnknownLocation site_d) → ⊥ }
-    ensures never_unopened { StatusCause until_faults nothing_wrong (world_of (TellsContents (with_global unknown_store))) (world_of (TellsContents (with_global unknown_store))) [] (status.UnknownLocation site_c) → ⊥ }
-    ensures never_a_known_location { StatusCause whole nothing_wrong (world_of TellsNothing) (world_of TellsNothing) [] (status.UnknownLocation site_a) → ⊥ }
-    ensures never_of_empty_stores { StatusCause whole nothing_wrong (world_of (TellsContents two_sites)) (world_of (TellsContents two_sites)) [] (status.UnknownLocation site_c) → ⊥ }
+    ensures unknown { StatusCause nothing_wrong (world_of (TellsContents (with_global unknown_store))) (world_of (TellsContents (with_global unknown_store))) [] (status.UnknownLocation site_c) }
+    ensures never_the_second { StatusCause nothing_wrong (world_of (TellsContents (with_global unknown_store))) (world_of (TellsContents (with_global unknown_store))) [] (status.UnknownLocation site_d) → ⊥ }
+    ensures never_a_known_location { StatusCause nothing_wrong (world_of TellsNothing) (world_of TellsNothing) [] (status.UnknownLocation site_a) → ⊥ }
+    ensures never_of_empty_stores { StatusCause nothing_wrong (world_of (TellsContents two_sites)) (world_of (TellsContents two_sites)) [] (status.UnknownLocation site_c) → ⊥ }
 {}
 
 /// And it comes, unless a status comes that is looked for before it.
@@ -232,14 +228,13 @@ pub fn keeps_to_status()
 
 /// A status has its cause, comes where it has it, and is kept to.
 pub fn status_has_cause()
-    ensures refused { StatusHasCause whole nothing_wrong (world_of (TellsContents two_sites)) (world_of (TellsContents two_sites)) (list_refused ∷ []) status.Refused }
-    ensures never_without_its_cause { StatusHasCause whole nothing_wrong (world_of (TellsContents two_sites)) (world_of (TellsContents two_sites)) (list_refused ∷ []) status.Done → ⊥ }
-    ensures never_past_wrong_words { StatusHasCause whole wrong_words (world_of (TellsContents two_sites)) (world_of (TellsContents two_sites)) (list_refused ∷ []) status.Refused → ⊥ }
-    ensures never_done_at_an_unknown_location { StatusHasCause whole nothing_wrong (world_of (TellsContents (with_global unknown_store))) (world_of (TellsContents (with_global unknown_store))) (list_refused ∷ []) (status.UnknownLocation site_c) → ⊥ }
-    ensures never_an_entry_at_an_unknown_location { StatusHasCause whole nothing_wrong (world_of (TellsContents (with_global unknown_store))) (world_of (TellsContents (with_global unknown_store))) (list_refused ∷ []) status.Memory → ⊥ }
-    ensures unopened { StatusHasCause until_faults nothing_wrong (world_of (TellsContents (with_global unknown_store))) (world_of (TellsContents (with_global unknown_store))) (list_refused ∷ []) status.Refused }
-    ensures never_past_an_unknown_location { StatusHasCause whole nothing_wrong (world_of (TellsContents (with_global unknown_store))) (world_of (TellsContents (with_global unknown_store))) (list_refused ∷ []) status.Refused → ⊥ }
-    ensures never_after_memory { StatusHasCause whole nothing_wrong (world_of TellsNothing) (world_of TellsNothing) (map_answered reply.Memory ∷ second_entry ∷ []) status.Memory → ⊥ }
+    ensures refused { StatusHasCause nothing_wrong (world_of (TellsContents two_sites)) (world_of (TellsContents two_sites)) (list_refused ∷ []) status.Refused }
+    ensures never_without_its_cause { StatusHasCause nothing_wrong (world_of (TellsContents two_sites)) (world_of (TellsContents two_sites)) (list_refused ∷ []) status.Done → ⊥ }
+    ensures never_past_wrong_words { StatusHasCause wrong_words (world_of (TellsContents two_sites)) (world_of (TellsContents two_sites)) (list_refused ∷ []) status.Refused → ⊥ }
+    ensures never_done_at_an_unknown_location { StatusHasCause nothing_wrong (world_of (TellsContents (with_global unknown_store))) (world_of (TellsContents (with_global unknown_store))) (list_refused ∷ []) (status.UnknownLocation site_c) → ⊥ }
+    ensures never_an_entry_at_an_unknown_location { StatusHasCause nothing_wrong (world_of (TellsContents (with_global unknown_store))) (world_of (TellsContents (with_global unknown_store))) (list_refused ∷ []) status.Memory → ⊥ }
+    ensures never_past_an_unknown_location { StatusHasCause nothing_wrong (world_of (TellsContents (with_global unknown_store))) (world_of (TellsContents (with_global unknown_store))) (list_refused ∷ []) status.Refused → ⊥ }
+    ensures never_after_memory { StatusHasCause nothing_wrong (world_of TellsNothing) (world_of TellsNothing) (map_answered reply.Memory ∷ second_entry ∷ []) status.Memory → ⊥ }
 {}
 
 // ---- all five
@@ -254,16 +249,16 @@ pub fn goes_on_from()
 
 /// The run of one command: a `list` that is refused, or a `map` that is done.
 pub fn headline()
-    ensures one_refused { Headline whole (EachReply false) nothing_wrong list_asked (trail_of []) (world_of (TellsTrail (trail_of []))) (world_of (TellsTrail list_trail)) (list_refused ∷ []) status.Refused }
-    ensures one_map { Headline whole (EachReply false) nothing_wrong (asks 1 (make_map map_m) ∷ []) (trail_of []) (world_of (TellsTrail (trail_of []))) (world_of (TellsTrail map_trail)) (map_entry ∷ []) status.Done }
-    ensures never_without_its_line { Headline whole (EachReply false) nothing_wrong (asks 1 (make_map map_m) ∷ []) (trail_of []) (world_of (TellsTrail (trail_of []))) (world_of (TellsTrail (trail_of (map_commit ∷ [])))) (map_entry ∷ []) status.Done → ⊥ }
-    ensures never_untold { Headline whole (EachReply false) nothing_wrong list_asked (trail_of []) (world_of (TellsTrail (trail_of []))) (world_of TellsNothing) (list_refused ∷ []) status.Refused → ⊥ }
-    ensures never_from_another_trail { Headline whole (EachReply false) nothing_wrong list_asked (trail_of (nothing_done ∷ [])) (world_of (TellsTrail (trail_of (nothing_done ∷ [])))) (world_of (TellsTrail list_trail)) (list_refused ∷ []) status.Refused → ⊥ }
-    ensures never_unsound { Headline whole (EachReply false) nothing_wrong [] (trail_of (Reopened Global without_number ∷ [])) (world_of (TellsTrail (trail_of (Reopened Global without_number ∷ [])))) (world_of (TellsTrail (trail_of (Reopened Global without_number ∷ [])))) [] status.Done → ⊥ }
-    ensures never_past_the_end { Headline whole (EachReply false) nothing_wrong (asks 1 (make_map map_m) ∷ []) (trail_of []) (world_of (TellsTrail (trail_of []))) (world_of (TellsTrail (trail_of []))) (map_entry ∷ []) status.WriteFault → ⊥ }
-    ensures never_unwritten { Headline whole (EachReply false) nothing_wrong list_asked (trail_of []) (world_of (TellsTrail (trail_of []))) (world_of (TellsTrail (trail_of []))) (list_refused ∷ []) status.Refused → ⊥ }
-    ensures never_of_another_script { Headline whole (EachReply false) nothing_wrong two_asked (trail_of []) (world_of (TellsTrail (trail_of []))) (world_of (TellsTrail list_trail)) (list_refused ∷ []) status.Refused → ⊥ }
-    ensures never_as_done { Headline whole (EachReply false) nothing_wrong list_asked (trail_of []) (world_of (TellsTrail (trail_of []))) (world_of (TellsTrail list_trail)) (list_refused ∷ []) status.Done → ⊥ }
+    ensures one_refused { Headline (EachReply false) nothing_wrong list_asked (trail_of []) (world_of (TellsTrail (trail_of []))) (world_of (TellsTrail list_trail)) (list_refused ∷ []) status.Refused }
+    ensures one_map { Headline (EachReply false) nothing_wrong (asks 1 (make_map map_m) ∷ []) (trail_of []) (world_of (TellsTrail (trail_of []))) (world_of (TellsTrail map_trail)) (map_entry ∷ []) status.Done }
+    ensures never_without_its_line { Headline (EachReply false) nothing_wrong (asks 1 (make_map map_m) ∷ []) (trail_of []) (world_of (TellsTrail (trail_of []))) (world_of (TellsTrail (trail_of (map_commit ∷ [])))) (map_entry ∷ []) status.Done → ⊥ }
+    ensures never_untold { Headline (EachReply false) nothing_wrong list_asked (trail_of []) (world_of (TellsTrail (trail_of []))) (world_of TellsNothing) (list_refused ∷ []) status.Refused → ⊥ }
+    ensures never_from_another_trail { Headline (EachReply false) nothing_wrong list_asked (trail_of (nothing_done ∷ [])) (world_of (TellsTrail (trail_of (nothing_done ∷ [])))) (world_of (TellsTrail list_trail)) (list_refused ∷ []) status.Refused → ⊥ }
+    ensures never_unsound { Headline (EachReply false) nothing_wrong [] (trail_of (Reopened Global without_number ∷ [])) (world_of (TellsTrail (trail_of (Reopened Global without_number ∷ [])))) (world_of (TellsTrail (trail_of (Reopened Global without_number ∷ [])))) [] status.Done → ⊥ }
+    ensures never_past_the_end { Headline (EachReply false) nothing_wrong (asks 1 (make_map map_m) ∷ []) (trail_of []) (world_of (TellsTrail (trail_of []))) (world_of (TellsTrail (trail_of []))) (map_entry ∷ []) status.WriteFault → ⊥ }
+    ensures never_unwritten { Headline (EachReply false) nothing_wrong list_asked (trail_of []) (world_of (TellsTrail (trail_of []))) (world_of (TellsTrail (trail_of []))) (list_refused ∷ []) status.Refused → ⊥ }
+    ensures never_of_another_script { Headline (EachReply false) nothing_wrong two_asked (trail_of []) (world_of (TellsTrail (trail_of []))) (world_of (TellsTrail list_trail)) (list_refused ∷ []) status.Refused → ⊥ }
+    ensures never_as_done { Headline (EachReply false) nothing_wrong list_asked (trail_of []) (world_of (TellsTrail (trail_of []))) (world_of (TellsTrail list_trail)) (list_refused ∷ []) status.Done → ⊥ }
 {}
 
 /// Over a world that tells its contents alone: each entry follows from the state before it.
@@ -283,11 +278,11 @@ pub fn legal_by_states()
 
 /// The parts that speak of no trail.
 pub fn headline_alone()
-    ensures one_refused { HeadlineAlone whole nothing_wrong list_asked two_sites (world_of (TellsContents two_sites)) (world_of (TellsContents two_sites)) (list_refused ∷ []) status.Refused }
-    ensures one_map { HeadlineAlone whole nothing_wrong (asks 1 (make_map map_m) ∷ []) two_sites (world_of (TellsContents two_sites)) (world_of (TellsContents image_m)) (map_entry ∷ []) status.Done }
-    ensures never_without_the_map { HeadlineAlone whole nothing_wrong (asks 1 (make_map map_m) ∷ []) two_sites (world_of (TellsContents two_sites)) (world_of (TellsContents two_sites)) (map_entry ∷ []) status.Done → ⊥ }
-    ensures never_unsound { HeadlineAlone whole nothing_wrong [] (with_global without_number) (world_of (TellsContents (with_global without_number))) (world_of (TellsContents (with_global without_number))) [] status.Done → ⊥ }
-    ensures never_untold { HeadlineAlone whole nothing_wrong list_asked two_sites (world_of (TellsContents two_sites)) (world_of TellsNothing) (list_refused ∷ []) status.Refused → ⊥ }
-    ensures never_of_another_script { HeadlineAlone whole nothing_wrong two_asked two_sites (world_of (TellsContents two_sites)) (world_of (TellsContents two_sites)) (list_refused ∷ []) status.Refused → ⊥ }
-    ensures never_as_done { HeadlineAlone whole nothing_wrong list_asked two_sites (world_of (TellsContents two_sites)) (world_of (TellsContents two_sites)) (list_refused ∷ []) status.Done → ⊥ }
+    ensures one_refused { HeadlineAlone nothing_wrong list_asked two_sites (world_of (TellsContents two_sites)) (world_of (TellsContents two_sites)) (list_refused ∷ []) status.Refused }
+    ensures one_map { HeadlineAlone nothing_wrong (asks 1 (make_map map_m) ∷ []) two_sites (world_of (TellsContents two_sites)) (world_of (TellsContents image_m)) (map_entry ∷ []) status.Done }
+    ensures never_without_the_map { HeadlineAlone nothing_wrong (asks 1 (make_map map_m) ∷ []) two_sites (world_of (TellsContents two_sites)) (world_of (TellsContents two_sites)) (map_entry ∷ []) status.Done → ⊥ }
+    ensures never_unsound { HeadlineAlone nothing_wrong [] (with_global without_number) (world_of (TellsContents (with_global without_number))) (world_of (TellsContents (with_global without_number))) [] status.Done → ⊥ }
+    ensures never_untold { HeadlineAlone nothing_wrong list_asked two_sites (world_of (TellsContents two_sites)) (world_of TellsNothing) (list_refused ∷ []) status.Refused → ⊥ }
+    ensures never_of_another_script { HeadlineAlone nothing_wrong two_asked two_sites (world_of (TellsContents two_sites)) (world_of (TellsContents two_sites)) (list_refused ∷ []) status.Refused → ⊥ }
+    ensures never_as_done { HeadlineAlone nothing_wrong list_asked two_sites (world_of (TellsContents two_sites)) (world_of (TellsContents two_sites)) (list_refused ∷ []) status.Done → ⊥ }
 {}

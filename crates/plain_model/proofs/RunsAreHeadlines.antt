@@ -14,7 +14,7 @@ use Rattle.plain_model.specs.Legal.{KeepsPromises}
 use Rattle.plain_model.specs.Written.{EachReply, AllWritten}
 use Rattle.plain_model.specs.Running.{Owing}
 use Rattle.plain_model.specs.ByMoments.{RunsByMoments}
-use Rattle.plain_model.specs.Headline.{Manner, Causes, EndsAnswered, has_stopped, SoundAtEachMoment, IsLegalHistory, OnlyWhatHappened, EachOnceInOrder, StatusHasCause, Headline, HeadlineAlone, FollowsTo}
+use Rattle.plain_model.specs.Headline.{Causes, EndsAnswered, has_stopped, SoundAtEachMoment, IsLegalHistory, OnlyWhatHappened, EachOnceInOrder, StatusHasCause, Headline, HeadlineAlone, FollowsTo}
 use Rattle.plain_model.specs.RunSoFar.{Course, RunsOn, HasGoneOn, KeepsRun, HasGoneTo, KeepsContents, EndsWritten, AreLeftGoing, HoldsOnTrail, HoldsByStates, resting}
 use Rattle.plain_model.proofs.RunsAtMoments.{runs_by_moments, all_lines_written}
 use Rattle.plain_model.proofs.AloneLaws.{alone_follows}
@@ -70,10 +70,10 @@ pub holds_on_trail : (tagged stopped : Bool) (script : List Asked) (old new : To
 holds_on_trail tagged stopped script old new course rest ending keeps left ends before told sound =
     ends_on_trail tagged stopped script new course rest ending before (keeps (end_of_trail before) (image_at before (end_of_trail before)) before told (run_begins (EachReply tagged) before sound)) left ends
 
-pub is_headline : (manner : Manner) (tagged : Bool) (causes : Causes) (script : List Asked) (before : Trail) (old new : Outside) (history : List Entry) (ending : RunStatus)
-    → HoldsOnTrail (EachReply tagged) (manner.stops ending) script before new.told history ending
-    → EachOnceInOrder manner script history ending → StatusHasCause manner causes old new history ending → Headline manner (EachReply tagged) causes script before old new history ending
-is_headline manner tagged causes script before old new history ending holds served caused =
+pub is_headline : (tagged : Bool) (causes : Causes) (script : List Asked) (before : Trail) (old new : Outside) (history : List Entry) (ending : RunStatus)
+    → HoldsOnTrail (EachReply tagged) (has_stopped ending) script before new.told history ending
+    → EachOnceInOrder script history ending → StatusHasCause causes old new history ending → Headline (EachReply tagged) causes script before old new history ending
+is_headline tagged causes script before old new history ending holds served caused =
     record { trail = holds.trail; told = holds.told; goes_on = holds.goes_on; sound = holds.sound; legal = holds.legal; written = holds.written; served = served; status = caused }
 
 -- ---- over a world that tells its contents alone
@@ -99,8 +99,8 @@ pub holds_by_states : (stopped : Bool) (script : List Asked) (old new : Told) (c
     → (first : Image) → old ≡ TellsContents first → Sound first → HoldsByStates stopped script first new course.history
 holds_by_states stopped script old new course keeps left first told sound = ends_by_states stopped script first new course (keeps first first told (run_begins_to first sound)) left
 
-pub is_headline_alone : (manner : Manner) (causes : Causes) (script : List Asked) (first : Image) (old new : Outside) (history : List Entry) (ending : RunStatus)
-    → HoldsByStates (manner.stops ending) script first new.told history
-    → EachOnceInOrder manner script history ending → StatusHasCause manner causes old new history ending → HeadlineAlone manner causes script first old new history ending
-is_headline_alone manner causes script first old new history ending holds served caused =
+pub is_headline_alone : (causes : Causes) (script : List Asked) (first : Image) (old new : Outside) (history : List Entry) (ending : RunStatus)
+    → HoldsByStates (has_stopped ending) script first new.told history
+    → EachOnceInOrder script history ending → StatusHasCause causes old new history ending → HeadlineAlone causes script first old new history ending
+is_headline_alone causes script first old new history ending holds served caused =
     record { last = holds.last; told = holds.told; sound = holds.sound; legal = holds.legal; served = served; status = caused }

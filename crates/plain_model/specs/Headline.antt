@@ -83,17 +83,6 @@ did_nothing status.TooLong = true
 did_nothing (status.UnknownLocation location) = true
 did_nothing other = false
 
--- ---- the manner of a run
-
--- How far the program is built, as a run shows it. A part of the promise that waits for the rest of the program takes it as a parameter.
-pub record Manner : Type 0 where
-  pub stops : RunStatus → Bool  -- with such a status the run stopped before its script was run to its end
-  pub opens : Bool  -- the stores are looked at before the first command
-
--- The whole program stops at a write and for memory alone, and looks at the stores first.
-abbrev pub whole : Manner
-whole = record { stops = has_stopped; opens = true }
-
 -- ---- 1: sound at each moment
 
 pub record SoundAtEachMoment (trail : Trail) (t0 : ℕ) : Type 0 where
@@ -141,12 +130,12 @@ pub record InOrder (stopped : Bool) (script : List Asked) (history : List Entry)
 abbrev pub AllAnswered : List Asked → List Entry → Type 0
 AllAnswered script history = (session : ℕ) → answered_by session history ≡ script_of session script
 
-pub record EachOnceInOrder (manner : Manner) (script : List Asked) (history : List Entry) (ending : RunStatus) : Type 0 where
-  pub in_order : InOrder (manner.stops ending) script history
+pub record EachOnceInOrder (script : List Asked) (history : List Entry) (ending : RunStatus) : Type 0 where
+  pub in_order : InOrder (has_stopped ending) script history
   -- they are all of them where the status is 0 or 1
   pub all : is_done ending ≡ true → AllAnswered script history
-  -- and where it is 5 and the history has a fault, unless the run stops with status 5
-  pub all_after_fault : manner.stops ending ≡ false → is_store_fault ending ≡ true → 0 < faults history → AllAnswered script history
+  -- and where it is 5 and the history has a fault
+  pub all_after_fault : is_store_fault ending ≡ true → 0 < faults history → AllAnswered script history
 
 -- ---- 5: the status has its cause
 
@@ -203,22 +192,22 @@ EndsWithMemory (e ∷ []) = Unit {0}
 EndsWithMemory (e ∷ f ∷ es) = (if_there is_memory e.reply ≡ false) × EndsWithMemory (f ∷ es)
 
 -- what each status says
-abbrev pub StatusCause : Manner → Causes → Outside → Outside → List Entry → RunStatus → Type 0
+abbrev pub StatusCause : Causes → Outside → Outside → List Entry → RunStatus → Type 0
 -- no reply is a refusal, `pending`, `fault` or `memory`
-StatusCause manner causes old new history status.Done = (replies_of counts_as_refused history ≡ 0) × (faults history ≡ 0) × (replies_of is_memory history ≡ 0)
+StatusCause causes old new history status.Done = (replies_of counts_as_refused history ≡ 0) × (faults history ≡ 0) × (replies_of is_memory history ≡ 0)
 -- some reply is a refusal or `pending`, and none is `fault` or `memory`
-StatusCause manner causes old new history status.Refused = (0 < replies_of counts_as_refused history) × (faults history ≡ 0) × (replies_of is_memory history ≡ 0)
-StatusCause manner causes old new history (status.BadWords place) = causes.bad_words place
-StatusCause manner causes old new history (status.BadScript line reason) = causes.bad_script line reason
-StatusCause manner causes old new history status.ReadFault = causes.source_rose
+StatusCause causes old new history status.Refused = (0 < replies_of counts_as_refused history) × (faults history ≡ 0) × (replies_of is_memory history ≡ 0)
+StatusCause causes old new history (status.BadWords place) = causes.bad_words place
+StatusCause causes old new history (status.BadScript line reason) = causes.bad_script line reason
+StatusCause causes old new history status.ReadFault = causes.source_rose
 -- the sink count rose, and the last entry is the one whose line failed
-StatusCause manner causes old new history status.WriteFault = Rose old.sink_faults new.sink_faults × EndsAnswered history
+StatusCause causes old new history status.WriteFault = Rose old.sink_faults new.sink_faults × EndsAnswered history
 -- the store count rose, and a `fault` stands in the history, or it is empty and the opening failed; none is `memory`
-StatusCause manner causes old new history status.StoreFault = StoreRoseBy 1 old new × ((0 < faults history) ⊎ ((manner.opens ≡ true) × (history ≡ []))) × (replies_of is_memory history ≡ 0)
-StatusCause manner causes old new history status.Memory = Unit {0}
-StatusCause manner causes old new history status.TooLong = causes.too_long
--- the stores were looked at, and this is the first location that they name and the world doesn't know
-StatusCause manner causes old new history (status.UnknownLocation location) = (manner.opens ≡ true) × (is_among old.locations location ≡ false) × IsUnknown old location
+StatusCause causes old new history status.StoreFault = StoreRoseBy 1 old new × ((0 < faults history) ⊎ (history ≡ [])) × (replies_of is_memory history ≡ 0)
+StatusCause causes old new history status.Memory = Unit {0}
+StatusCause causes old new history status.TooLong = causes.too_long
+-- this is the first location that the stores name and the world doesn't know
+StatusCause causes old new history (status.UnknownLocation location) = (is_among old.locations location ≡ false) × IsUnknown old location
 
 -- the statuses that come of the words or of the reading
 abbrev pub ends_by_reading : RunStatus → Bool
@@ -261,14 +250,14 @@ pub record KeepsToStatus (old new : Outside) (history : List Entry) (ending : Ru
   pub nothing : did_nothing ending ≡ true → history ≡ []
   pub unchanged : did_nothing ending ≡ true → new.told ≡ old.told
 
-pub record StatusHasCause (manner : Manner) (causes : Causes) (old new : Outside) (history : List Entry) (ending : RunStatus) : Type 0 where
+pub record StatusHasCause (causes : Causes) (old new : Outside) (history : List Entry) (ending : RunStatus) : Type 0 where
   -- the status says what is so
-  pub cause : StatusCause manner causes old new history ending
+  pub cause : StatusCause causes old new history ending
   -- and comes where it is so
   pub by_input : ComesByInput causes ending
-  pub by_opening : manner.opens ≡ true → ComesByOpening old ending
+  pub by_opening : ComesByOpening old ending
   -- an unknown location is found before anything is done
-  pub unknown : manner.opens ≡ true → LeavesUnknown old new history
+  pub unknown : LeavesUnknown old new history
   pub kept : KeepsToStatus old new history ending
 
 -- ---- all five, over a world that tells its trail
@@ -279,17 +268,17 @@ pub record GoesOnFrom (earlier later : Trail) : Type 0 where
   pub front : take (end_of_trail earlier) later.happened ≡ earlier.happened  -- and first what had happened
 
 -- The run began where the trail was this long, with its end as moment t0.
-pub record Headline (manner : Manner) (mode : Mode) (causes : Causes) (script : List Asked) (before : Trail) (old new : Outside) (history : List Entry) (ending : RunStatus) : Type 0 where
+pub record Headline (mode : Mode) (causes : Causes) (script : List Asked) (before : Trail) (old new : Outside) (history : List Entry) (ending : RunStatus) : Type 0 where
   -- the trail at the end
   pub trail : Trail
   pub told : new.told ≡ TellsTrail trail
   pub goes_on : GoesOnFrom before trail
   -- the five parts
   pub sound : SoundAtEachMoment trail (end_of_trail before)
-  pub legal : IsLegalHistory (manner.stops ending) trail (end_of_trail before) script history
+  pub legal : IsLegalHistory (has_stopped ending) trail (end_of_trail before) script history
   pub written : OnlyWhatHappened mode trail (end_of_trail before) history ending
-  pub served : EachOnceInOrder manner script history ending
-  pub status : StatusHasCause manner causes old new history ending
+  pub served : EachOnceInOrder script history ending
+  pub status : StatusHasCause causes old new history ending
 
 -- ---- over a world that tells its contents alone
 
@@ -309,13 +298,13 @@ pub record IsLegalByStates (stopped : Bool) (first last : Image) (script : List 
   pub left : (session : ℕ) → IsLeftGoing stopped script history session (going session)
   pub promises : KeepsPromises going history
 
-pub record HeadlineAlone (manner : Manner) (causes : Causes) (script : List Asked) (first : Image) (old new : Outside) (history : List Entry) (ending : RunStatus) : Type 0 where
+pub record HeadlineAlone (causes : Causes) (script : List Asked) (first : Image) (old new : Outside) (history : List Entry) (ending : RunStatus) : Type 0 where
   -- the contents at the end
   pub last : Image
   pub told : new.told ≡ TellsContents last
   -- which are sound
   pub sound : Sound last
   -- the parts that speak of no trail
-  pub legal : IsLegalByStates (manner.stops ending) first last script history
-  pub served : EachOnceInOrder manner script history ending
-  pub status : StatusHasCause manner causes old new history ending
+  pub legal : IsLegalByStates (has_stopped ending) first last script history
+  pub served : EachOnceInOrder script history ending
+  pub status : StatusHasCause causes old new history ending

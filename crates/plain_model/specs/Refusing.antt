@@ -45,6 +45,16 @@ kind_of_map s name = option_map (λ m. m.0) (map.get s.maps name)
 abbrev pub type_of_map : PlainState → Text → Option KeyType
 type_of_map s name = option_map (λ m. m.1) (map.get s.maps name)
 
+-- the token that a command on a mapping gives to open it, if it gives one
+abbrev pub given_token : Command → Option Token
+given_token (command.Delete name key token) = token
+given_token (command.Offline name key token) = token
+given_token (command.Online name key token) = token
+given_token (command.Move name key location token) = token
+given_token (command.Split name key token) = token
+given_token (command.Merge name key token) = token
+given_token other = None
+
 -- the key of the map's type that a word is
 abbrev pub key_in : PlainState → Text → Text → Option Text
 key_in s name text = option_and_then (λ type. normal_of type text) (type_of_map s name)

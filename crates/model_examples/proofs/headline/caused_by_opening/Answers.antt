@@ -6,16 +6,13 @@ use Rattle.cell_world.specs.Keys.{same}
 use Rattle.model_examples.proofs.headline.caused_by_opening.Goals as goal
 
 pub returns-clause-unknown : goal.returns-clause-unknown
-returns-clause-unknown c = (refl, refl, c_is_first)
+returns-clause-unknown c = (refl, c_is_first)
 
 pub returns-clause-never_the_second : goal.returns-clause-never_the_second
-returns-clause-never_the_second c f = differ (same site_d) _ _ (first_is_c site_d f.2) refl refl
+returns-clause-never_the_second c f = differ (same site_d) _ _ (first_is_c site_d f.1) refl refl
 
 pub returns-clause-never_of_empty_stores : goal.returns-clause-never_of_empty_stores
-returns-clause-never_of_empty_stores c f = none_unknown _ _ f.2
-
-pub returns-clause-never_unopened : goal.returns-clause-never_unopened
-returns-clause-never_unopened c f = true≢false (sym f.0)
+returns-clause-never_of_empty_stores c f = none_unknown _ _ f.1
 
 pub returns-clause-never_a_known_location : goal.returns-clause-never_a_known_location
-returns-clause-never_a_known_location c f = true≢false f.1
+returns-clause-never_a_known_location c f = true≢false f.0

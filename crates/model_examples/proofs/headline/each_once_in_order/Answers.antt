@@ -11,10 +11,10 @@ pub returns-clause-done : goal.returns-clause-done
 returns-clause-done c = serves (map_entry ∷ second_entry ∷ []) status.Done (refl, (refl, tt))
 
 pub returns-clause-stopped_at_a_write : goal.returns-clause-stopped_at_a_write
-returns-clause-stopped_at_a_write c = record { in_order = in_order true (map_entry ∷ []) (asks 1 (make_map map_n) ∷ []) (refl, tt); all = λ done. absurd (true≢false (sym done)); all_after_fault = λ goes failed. absurd (true≢false (sym failed)) }
+returns-clause-stopped_at_a_write c = record { in_order = in_order true (map_entry ∷ []) (asks 1 (make_map map_n) ∷ []) (refl, tt); all = λ done. absurd (true≢false (sym done)); all_after_fault = λ failed. absurd (true≢false (sym failed)) }
 
 pub returns-clause-opening_failed : goal.returns-clause-opening_failed
-returns-clause-opening_failed c = record { in_order = in_order false [] two_asked tt; all = λ done. absurd (true≢false (sym done)); all_after_fault = λ goes failed fault. absurd (let e : 0 < 0 = fault in omega arith) }
+returns-clause-opening_failed c = record { in_order = in_order false [] two_asked tt; all = λ done. absurd (true≢false (sym done)); all_after_fault = λ failed fault. absurd (let e : 0 < 0 = fault in omega arith) }
 
 pub returns-clause-never_done_before_the_end : goal.returns-clause-never_done_before_the_end
 returns-clause-never_done_before_the_end c o = let e : make_map map_m ∷ [] ≡ make_map map_m ∷ make_map map_n ∷ [] = o.all refl 1 in cc
@@ -23,10 +23,7 @@ pub returns-clause-never_refused_before_the_end : goal.returns-clause-never_refu
 returns-clause-never_refused_before_the_end c o = let e : make_map map_m ∷ [] ≡ make_map map_m ∷ make_map map_n ∷ [] = o.all refl 1 in cc
 
 pub returns-clause-never_a_fault_before_the_end : goal.returns-clause-never_a_fault_before_the_end
-returns-clause-never_a_fault_before_the_end c o = let one : 0 < 1 = omega arith in let e : make_map map_m ∷ [] ≡ make_map map_m ∷ make_map map_n ∷ [] = o.all_after_fault refl refl one 1 in cc
+returns-clause-never_a_fault_before_the_end c o = let one : 0 < 1 = omega arith in let e : make_map map_m ∷ [] ≡ make_map map_m ∷ make_map map_n ∷ [] = o.all_after_fault refl one 1 in cc
 
-pub returns-clause-ended_by_a_fault : goal.returns-clause-ended_by_a_fault
-returns-clause-ended_by_a_fault c = record { in_order = in_order true (map_answered reply.Fault ∷ []) (asks 1 (make_map map_n) ∷ []) (refl, tt); all = λ done. absurd (true≢false (sym done)); all_after_fault = λ goes. absurd (true≢false goes) }
-
-pub returns-clause-never_ended_by_a_refusal : goal.returns-clause-never_ended_by_a_refusal
-returns-clause-never_ended_by_a_refusal c o = let e : make_map map_m ∷ [] ≡ make_map map_m ∷ make_map map_n ∷ [] = o.all refl 1 in cc
+pub returns-clause-all_after_a_fault : goal.returns-clause-all_after_a_fault
+returns-clause-all_after_a_fault c = serves (map_answered reply.Fault ∷ second_entry ∷ []) status.StoreFault (refl, (refl, tt))

@@ -18,22 +18,13 @@ pub returns-clause-never_past_wrong_words : goal.returns-clause-never_past_wrong
 returns-clause-never_past_wrong_words c h = ⊎_elim (λ e. let f : status.Refused ≡ status.BadWords 2 = e in cc) (λ e. let f : status.Refused ≡ status.Memory = e in cc) (h.by_input.words 2 refl)
 
 pub returns-clause-never_past_an_unknown_location : goal.returns-clause-never_past_an_unknown_location
-returns-clause-never_past_an_unknown_location c h = ⊎_elim (λ e. let f : status.Refused ≡ status.UnknownLocation site_c = e in cc) (λ e. true≢false (sym e)) (h.by_opening refl site_c c_is_first)
+returns-clause-never_past_an_unknown_location c h = ⊎_elim (λ e. let f : status.Refused ≡ status.UnknownLocation site_c = e in cc) (λ e. true≢false (sym e)) (h.by_opening site_c c_is_first)
 
 pub returns-clause-never_after_memory : goal.returns-clause-never_after_memory
 returns-clause-never_after_memory c h = true≢false h.kept.ends_with_memory.0
 
 pub returns-clause-never_done_at_an_unknown_location : goal.returns-clause-never_done_at_an_unknown_location
-returns-clause-never_done_at_an_unknown_location c h = let e : list_refused ∷ [] ≡ [] = (h.unknown refl site_c c_is_first).0 in cc
-
-pub returns-clause-unopened : goal.returns-clause-unopened
-returns-clause-unopened c = let one : 0 < 1 = omega arith in let none : 0 ≤ 0 = omega arith in record {
-  cause = (one, refl, refl);
-  by_input = record { words = λ place wrong. absurd wrong; reading = λ long. absurd long; script = λ line reason wrong. absurd wrong };
-  by_opening = λ opens. absurd (true≢false (sym opens));
-  unknown = λ opens. absurd (true≢false (sym opens));
-  kept = record { few_faults = inr none; ends_with_memory = tt; nothing = λ nothing. absurd (true≢false (sym nothing)); unchanged = λ nothing. absurd (true≢false (sym nothing)) };
-}
+returns-clause-never_done_at_an_unknown_location c h = let e : list_refused ∷ [] ≡ [] = (h.unknown site_c c_is_first).0 in cc
 
 pub returns-clause-never_an_entry_at_an_unknown_location : goal.returns-clause-never_an_entry_at_an_unknown_location
-returns-clause-never_an_entry_at_an_unknown_location c h = let e : list_refused ∷ [] ≡ [] = (h.unknown refl site_c c_is_first).0 in cc
+returns-clause-never_an_entry_at_an_unknown_location c h = let e : list_refused ∷ [] ≡ [] = (h.unknown site_c c_is_first).0 in cc
