@@ -27,38 +27,50 @@ use Rattle.plain_model.specs.declared.replies.Reply.TheVariants as reply
 use Rattle.plain_model.specs.declared.replies.Refusal.{Refusal}
 use Rattle.plain_model.specs.Legal.{IsOwnOf}
 use Rattle.plain_model.specs.OnTrail.{logs_put, reach_of_command}
-use Rattle.plain_model.specs.Refusing.{Check, refusal, locked}
+use Rattle.plain_model.specs.Refusing.{Check, given_token, refusal, locked}
 use Rattle.plain_model.specs.ShortCommands.{is_short, is_short_answer, is_short_refusal, short_commit, standing_with, IsShortChange, IsShortAnswer, IsRefusedWith}
 
--- the short commands that aren't planned yet
-abbrev pub is_unbuilt : Command → Bool
-is_unbuilt (command.Lock name key token) = true
-is_unbuilt (command.Unlock name key token) = true
-is_unbuilt other = false
+-- `lock` and `unlock`, which are short
+abbrev pub is_locking : Command → Bool
+is_locking (command.Lock name key token) = true
+is_locking (command.Unlock name key token) = true
+is_locking other = false
 
--- the short commands that are planned here
-abbrev pub is_planned : Command → Bool
-is_planned c = is_short c && not (is_unbuilt c)
+-- those that add a mapping
+abbrev pub is_adding : Command → Bool
+is_adding (command.Add name low high location) = true
+is_adding (command.Addpoint name key location) = true
+is_adding other = false
 
--- the long commands that are planned here
-abbrev pub is_long_planned : Command → Bool
-is_long_planned (command.Add name low high location) = true
-is_long_planned (command.Addpoint name key location) = true
-is_long_planned other = false
+-- those that exchange mappings that stand
+abbrev pub is_exchange : Command → Bool
+is_exchange (command.Delete name key token) = true
+is_exchange (command.Offline name key token) = true
+is_exchange (command.Online name key token) = true
+is_exchange (command.Move name key location token) = true
+is_exchange (command.Split name key token) = true
+is_exchange (command.Merge name key token) = true
+is_exchange other = false
+
+-- the long commands: each is planned as an operation
+abbrev pub is_long : Command → Bool
+is_long c = is_adding c || is_exchange c
 
 -- the commands that may be asked
 abbrev pub is_asked : Command → Bool
-is_asked c = is_planned c || is_long_planned c
+is_asked c = is_short c || is_long c
 
--- the token that a command gives, if it gives one
-abbrev pub given_token : Command → Option Token
-given_token (command.Delete name key token) = token
-given_token (command.Offline name key token) = token
-given_token (command.Online name key token) = token
-given_token (command.Move name key location token) = token
-given_token (command.Split name key token) = token
-given_token (command.Merge name key token) = token
-given_token other = None
+-- those on a mapping that stands, which are planned by `mapping_plans`
+abbrev pub is_mapping : Command → Bool
+is_mapping c = is_locking c || is_exchange c
+
+-- the others, which are planned by this crate: the short ones
+abbrev pub is_short_here : Command → Bool
+is_short_here c = is_short c && not (is_locking c)
+
+-- and all of them
+abbrev pub is_planned_here : Command → Bool
+is_planned_here c = is_short_here c || is_adding c
 
 -- ---- on an image
 
@@ -145,9 +157,9 @@ IsLongPlan (Err stop.Memory) = Unit {0}
 
 -- So is the plan of a command: a short one's of a short command alone, and a long one's of a long command alone.
 abbrev pub IsPlanOf : Command → Result Plan PlanStop → Type 0
-IsPlanOf c (Ok (plan.Short reached change r)) = (is_planned c ≡ true) × IsShortPlan (Ok (plan.Short reached change r))
-IsPlanOf c (Ok (plan.Answer r)) = (is_planned c ≡ true) × IsShortPlan (Ok (plan.Answer r))
-IsPlanOf c (Ok (plan.Long op)) = (is_long_planned c ≡ true) × IsLongPlan (Ok (plan.Long op))
+IsPlanOf c (Ok (plan.Short reached change r)) = (is_short c ≡ true) × IsShortPlan (Ok (plan.Short reached change r))
+IsPlanOf c (Ok (plan.Answer r)) = (is_short c ≡ true) × IsShortPlan (Ok (plan.Answer r))
+IsPlanOf c (Ok (plan.Long op)) = (is_long c ≡ true) × IsLongPlan (Ok (plan.Long op))
 IsPlanOf c (Err (stop.Refused r)) = is_short_refusal r ≡ true
 IsPlanOf c (Err stop.Store) = Unit {0}
 IsPlanOf c (Err stop.Memory) = Unit {0}

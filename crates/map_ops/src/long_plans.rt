@@ -1,8 +1,8 @@
-//! The plan of a long command.
+//! The plan of a command that adds a mapping.
 ghost use Rattle.std.specs.Prelude.{◌≡◌, ◌+◌, ◌≤◌, IsErrOf, true};
 ghost use Rattle.cell_world.specs.Counts.{Rose};
 ghost use Rattle.cell_world.specs.Outside.{IfContents, IsLater};
-ghost use Rattle.map_ops.specs.Planning.{PlansWith, IsLongPlan, is_long_planned};
+ghost use Rattle.map_ops.specs.Planning.{PlansWith, IsLongPlan, is_adding};
 
 use crate::adding::{plan_add, plan_addpoint};
 use cell_world::outside::World;
@@ -11,14 +11,14 @@ use plain_model::commands::Command;
 use plain_model::plans::{Plan, PlanStop};
 use std::alloc::Global;
 
-/// The plan of a long command that is planned here.
+/// The plan of `add` or `addpoint`.
 pub fn plan_long<W: World>(
     alloc: Global,
     world: &mut W,
     known: &KnownTables,
     command: &Command,
 ) -> Result<Plan, PlanStop>
-    requires { is_long_planned command.now ≡ true }
+    requires { is_adding command.now ≡ true }
     ensures plans { IfContents (W.outside world.old).told (PlansWith known.now command.now result) }
     ensures long { IsLongPlan result }
     ensures reads { (W.outside world.new).global_reads ≤ (W.outside world.old).global_reads + 2 }

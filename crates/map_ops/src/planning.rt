@@ -1,8 +1,8 @@
-//! The plan of a command.
+//! The plan of a command but those on a mapping that stands.
 ghost use Rattle.std.specs.Prelude.{◌≡◌, ◌+◌, ◌≤◌, IsErrOf, true};
 ghost use Rattle.cell_world.specs.Counts.{Rose};
 ghost use Rattle.cell_world.specs.Outside.{IfContents, IsLater};
-ghost use Rattle.map_ops.specs.Planning.{PlansWith, IsPlanOf, is_asked, is_long_planned};
+ghost use Rattle.map_ops.specs.Planning.{PlansWith, IsPlanOf, is_adding, is_planned_here};
 
 use crate::long_plans::plan_long;
 use crate::short_plans::plan_short;
@@ -12,9 +12,9 @@ use plain_model::commands::Command;
 use plain_model::plans::{Plan, PlanStop};
 use std::alloc::Global;
 
-/// Whether the command is planned as a long operation.
-fn is_long(command: &Command) -> bool
-    ensures { result ≡ is_long_planned command.now }
+/// Whether the command adds a mapping.
+fn is_adding(command: &Command) -> bool
+    ensures { result ≡ is_adding command.now }
 {
     matches!(
         command,
@@ -32,18 +32,18 @@ pub fn plan<W: World>(
     known: &KnownTables,
     command: &Command,
 ) -> Result<Plan, PlanStop>
-    requires { is_asked command.now ≡ true }
+    requires { is_planned_here command.now ≡ true }
     // Where contents are told: the refusal is the plain step's; and so are the reach, the change and the reply, or the operation.
     ensures plans { IfContents (W.outside world.old).told (PlansWith known.now command.now result) }
     // Whatever is told: the plan is a short one or a long one, as the command is.
     ensures of_command { IsPlanOf command.now result }
-    // The plan of a long command reads the global store twice at most.
-    ensures reads { is_long_planned command.now ≡ true → (W.outside world.new).global_reads ≤ (W.outside world.old).global_reads + 2 }
+    // The plan of `add` and `addpoint` reads the global store twice at most.
+    ensures reads { is_adding command.now ≡ true → (W.outside world.new).global_reads ≤ (W.outside world.old).global_reads + 2 }
     ensures told { (W.outside world.new).told ≡ (W.outside world.old).told }
     ensures later { IsLater (W.outside world.old) (W.outside world.new) }
     ensures cause { IsErrOf result PlanStop.Store → Rose ((W.outside world.old).faults_at 0) ((W.outside world.new).faults_at 0) }
 {
-    if is_long(command) {
+    if is_adding(command) {
         plan_long(alloc, world, known, command)
     } else {
         plan_short(alloc, world, known, command)

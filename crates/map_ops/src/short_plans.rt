@@ -2,7 +2,7 @@
 ghost use Rattle.std.specs.Prelude.{◌≡◌, IsErrOf, true};
 ghost use Rattle.cell_world.specs.Counts.{Rose};
 ghost use Rattle.cell_world.specs.Outside.{IfContents, IsLater};
-ghost use Rattle.map_ops.specs.Planning.{PlansWith, IsShortPlan, is_planned};
+ghost use Rattle.map_ops.specs.Planning.{PlansWith, IsShortPlan, is_short_here};
 
 use crate::mappings::{plan_find, plan_list};
 use crate::maps::{plan_map, plan_unmap};
@@ -21,7 +21,7 @@ pub fn plan_short<W: World>(
     known: &KnownTables,
     command: &Command,
 ) -> Result<Plan, PlanStop>
-    requires { is_planned command.now ≡ true }
+    requires { is_short_here command.now ≡ true }
     ensures plans { IfContents (W.outside world.old).told (PlansWith known.now command.now result) }
     ensures short { IsShortPlan result }
     ensures told { (W.outside world.new).told ≡ (W.outside world.old).told }

@@ -1,4 +1,5 @@
 pub mod AfterChecks
+pub mod AllPlans
 pub mod DeletePlans
 pub mod EmptyPlans
 pub mod ExchangeLaws

@@ -29,9 +29,9 @@ use Rattle.plain_model.specs.declared.plans.PlanStop.{PlanStop}
 use Rattle.plain_model.specs.declared.plans.PlanStop.TheVariants as stop
 use Rattle.plain_model.specs.declared.replies.Refusal.{Refusal}
 use Rattle.plain_model.specs.Legal.{IsOwnOf}
-use Rattle.plain_model.specs.Refusing.{Check, first_refusal, refusal, locked, same_status, same_status_already}
+use Rattle.plain_model.specs.Refusing.{Check, given_token, first_refusal, refusal, locked, same_status, same_status_already}
 use Rattle.plain_model.specs.Steps.{becomes, with_status}
-use Rattle.map_ops.specs.Planning.{Refuses, PlansLong, PlansWith, given_token}
+use Rattle.map_ops.specs.Planning.{Refuses, PlansLong, PlansWith}
 use Rattle.map_ops.proofs.Checks.{NoneHolds, none_holds}
 use Rattle.mapping_plans.specs.Commands.{status_command}
 use Rattle.mapping_plans.specs.Exchanges.{status_op, one_piece, PlansOp}

@@ -9,6 +9,7 @@ mod locks;
 mod merges;
 mod moves;
 pub mod planning;
+pub mod plans;
 mod site_rows;
 mod splits;
 mod statuses;

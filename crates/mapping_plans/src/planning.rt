@@ -1,8 +1,7 @@
-//! The plan of a mapping command.
+//! The plan of a command on a mapping that stands.
 ghost use Rattle.std.specs.Prelude.{◌≡◌, ◌+◌, ◌≤◌, IsErrOf, true};
 ghost use Rattle.cell_world.specs.Outside.{IfContents, IsLater, StoreRoseBy};
-ghost use Rattle.map_ops.specs.Planning.{PlansWith, IsLongPlan, IsShortPlan};
-ghost use Rattle.mapping_plans.specs.Commands.{is_exchange, is_locking, is_mapping};
+ghost use Rattle.map_ops.specs.Planning.{PlansWith, IsLongPlan, IsShortPlan, is_exchange, is_locking, is_mapping};
 
 use crate::deletes::plan_delete;
 use crate::locks::{plan_lock, plan_unlock};

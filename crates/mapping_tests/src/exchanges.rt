@@ -1,11 +1,11 @@
 //! What the operations of accepted commands exchange.
 ghost use Rattle.std.specs.Prelude.{◌≡◌, true};
-ghost use Rattle.mapping_plans.specs.Commands.{is_mapping};
+ghost use Rattle.map_ops.specs.Planning.{is_asked};
 
 use crate::stores::{TOKEN, is_range, name, place, planned, store, word};
 use cell_world::cells::Status;
 use cell_world::operations::{Piece, Pieces};
-use plain_model::commands::Command;
+use plain_model::commands::{Command, HighText};
 use plain_model::plans::Plan;
 use std::alloc::Global;
 use std::test::Fail;
@@ -93,7 +93,7 @@ fn exchanges(
     olds: &[Wanted],
     news: &[Wanted],
 ) -> Result<bool, Fail>
-    requires { is_mapping command.now ≡ true }
+    requires { is_asked command.now ≡ true }
 {
     let found = planned(alloc, world, command)?;
     match &found {
@@ -141,6 +141,16 @@ fn a_mapping_moves(rt: HostRuntime) -> Result<(), Fail> {
     let command = Command::Move(name(b"m")?, word(b"45")?, place(b"s/b")?, Some(TOKEN));
     let (old, new) = ([locked(40, 50, false)], [locked(40, 50, true)]);
     assert!(rt; exchanges(rt.alloc(), &mut world, &command, (40, 50), &old, &new)?);
+    Ok(())
+}
+
+#[test]
+fn a_mapping_comes(rt: HostRuntime) -> Result<(), Fail> {
+    let mut world = store(rt.alloc())?;
+    let high = HighText::At(word(b"60")?);
+    let add = Command::Add(name(b"m")?, word(b"50")?, high, place(b"s/a")?);
+    let new = [online(50, 60)];
+    assert!(rt; exchanges(rt.alloc(), &mut world, &add, (50, 60), &[], &new)?);
     Ok(())
 }
 

@@ -1,6 +1,6 @@
 //! `lock` and `unlock`: their refusals in the order of the command table, and what they put.
 ghost use Rattle.std.specs.Prelude.{◌≡◌, true};
-ghost use Rattle.mapping_plans.specs.Commands.{is_mapping};
+ghost use Rattle.map_ops.specs.Planning.{is_asked};
 
 use crate::stores::{OTHER, TOKEN, is_range, name, planned, refusal, store, word};
 use cell_world::cells::{Site, Token};
@@ -47,7 +47,7 @@ fn done(
     low: u32,
     end: u32,
 ) -> Result<bool, Fail>
-    requires { is_mapping command.now ≡ true }
+    requires { is_asked command.now ≡ true }
 {
     let found = planned(alloc, world, command)?;
     match &found {

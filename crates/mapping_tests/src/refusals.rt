@@ -1,207 +1,91 @@
-//! The refusals of each command, in the order of the command table.
-use crate::stores::{OTHER, TOKEN, name, place, put_row, refusal, store, store_away, word};
-use cell_world::cells::{Away, Token};
-use plain_model::commands::Command;
-use plain_model::replies::Refusal;
-use std::alloc::Global;
+//! Of each mapping command, every two refusals that stand one behind the other in its row of the command table: where both
+//! hold the first is answered, and the second once its cause is gone. The plain program is asked the same.
+use crate::asked::wrong_of;
+use crate::delete_pairs::{DELETE, ROWS};
+use crate::lock_pairs::{LOCK, UNLOCK};
+use crate::merge_pairs::{CAUSES, MERGE};
+use crate::move_pairs::{MOVE, SITES};
+use crate::split_pairs::SPLIT;
+use crate::status_pairs::{OFFLINE, ONLINE};
+use command_scripts::Line;
 use std::test::Fail;
-use world_memory::world::MemoryWorld;
 
-fn of_delete(
-    alloc: Global,
-    world: &mut MemoryWorld,
-    map: &[u8],
-    text: &[u8],
-    token: Option<Token>,
-) -> Result<Option<Refusal>, Fail> {
-    refusal(
-        alloc,
-        world,
-        &Command::Delete(name(map)?, word(text)?, token),
-    )
-}
-
-fn of_move(
-    alloc: Global,
-    world: &mut MemoryWorld,
-    map: &[u8],
-    text: &[u8],
-    at: &[u8],
-    token: Option<Token>,
-) -> Result<Option<Refusal>, Fail> {
-    let command = Command::Move(name(map)?, word(text)?, place(at)?, token);
-    refusal(alloc, world, &command)
-}
-
-fn of_split(
-    alloc: Global,
-    world: &mut MemoryWorld,
-    map: &[u8],
-    text: &[u8],
-    token: Option<Token>,
-) -> Result<Option<Refusal>, Fail> {
-    refusal(
-        alloc,
-        world,
-        &Command::Split(name(map)?, word(text)?, token),
-    )
-}
-
-fn of_merge(
-    alloc: Global,
-    world: &mut MemoryWorld,
-    map: &[u8],
-    text: &[u8],
-    token: Option<Token>,
-) -> Result<Option<Refusal>, Fail> {
-    refusal(
-        alloc,
-        world,
-        &Command::Merge(name(map)?, word(text)?, token),
-    )
-}
-
-fn of_offline(
-    alloc: Global,
-    world: &mut MemoryWorld,
-    text: &[u8],
-    token: Option<Token>,
-) -> Result<Option<Refusal>, Fail> {
-    refusal(
-        alloc,
-        world,
-        &Command::Offline(name(b"m")?, word(text)?, token),
-    )
-}
-
-fn of_online(
-    alloc: Global,
-    world: &mut MemoryWorld,
-    text: &[u8],
-    token: Option<Token>,
-) -> Result<Option<Refusal>, Fail> {
-    refusal(
-        alloc,
-        world,
-        &Command::Online(name(b"m")?, word(text)?, token),
-    )
-}
+/// What stands at first. Of `m`: 0 to 10 is online and has a token, 10 to 20 is online, 20 to 30 is offline, all at `s/a`.
+/// `s/c` is known and no shard, and `s/z` isn't known.
+static START: [Line; 9] = [
+    ("map m range int", "ok"),
+    ("shard m s/a", "ok"),
+    ("shard m s/b", "ok"),
+    ("table m t", "ok"),
+    ("add m 0 10 s/a", "ok"),
+    ("lock m 0 00000000-0000-0001-0000-000000000000", "ok"),
+    ("add m 10 20 s/a", "ok"),
+    ("add m 20 30 s/a", "ok"),
+    ("offline m 20", "ok"),
+];
 
 #[test]
-fn a_mapping_to_delete(rt: HostRuntime) -> Result<(), Fail> {
-    let mut world = store(rt.alloc())?;
-    let no_map = of_delete(rt.alloc(), &mut world, b"q", b"x", None)?;
-    assert!(rt; no_map == Some(Refusal::NoMap));
-    let bad_key = of_delete(rt.alloc(), &mut world, b"m", b"x", None)?;
-    assert!(rt; bad_key == Some(Refusal::BadKey));
-    let no_mapping = of_delete(rt.alloc(), &mut world, b"m", b"50", None)?;
-    assert!(rt; no_mapping == Some(Refusal::NoMapping));
-    let locked = of_delete(rt.alloc(), &mut world, b"m", b"45", Some(OTHER))?;
-    assert!(rt; locked == Some(Refusal::Locked));
-    let online = of_delete(rt.alloc(), &mut world, b"m", b"5", None)?;
-    assert!(rt; online == Some(Refusal::NotOffline));
+fn of_delete(rt: HostRuntime) -> Result<(), Fail> {
+    assert_eq!(rt; wrong_of(rt.alloc(), &START, &DELETE)?, None);
     Ok(())
 }
 
 #[test]
-fn rows_keep_a_mapping(rt: HostRuntime) -> Result<(), Fail> {
-    let mut world = store(rt.alloc())?;
-    assert!(rt; of_delete(rt.alloc(), &mut world, b"m", b"25", None)?.is_none());
-    put_row(rt.alloc(), &mut world, 20)?;
-    put_row(rt.alloc(), &mut world, 5)?;
-    let present = of_delete(rt.alloc(), &mut world, b"m", b"25", None)?;
-    assert!(rt; present == Some(Refusal::RowsPresent));
-    let online = of_delete(rt.alloc(), &mut world, b"m", b"5", None)?;
-    assert!(rt; online == Some(Refusal::NotOffline));
-    assert!(rt; of_delete(rt.alloc(), &mut world, b"m", b"35", None)?.is_none());
-    let moved = of_move(rt.alloc(), &mut world, b"m", b"25", b"s/b", None)?;
-    assert!(rt; moved == Some(Refusal::RowsPresent));
+fn of_mappings_with_rows(rt: HostRuntime) -> Result<(), Fail> {
+    assert_eq!(rt; wrong_of(rt.alloc(), &START, &ROWS)?, None);
     Ok(())
 }
 
 #[test]
-fn a_site_that_is_away(rt: HostRuntime) -> Result<(), Fail> {
-    let mut world = store_away(rt.alloc(), b"s/a", Away::Detached)?;
-    let none = of_delete(rt.alloc(), &mut world, b"m", b"50", None)?;
-    assert!(rt; none == Some(Refusal::NoMapping));
-    let detached = of_delete(rt.alloc(), &mut world, b"m", b"45", None)?;
-    assert!(rt; detached == Some(Refusal::Detached));
-    let mut world = store_away(rt.alloc(), b"s/a", Away::Suspect)?;
-    let unsure = of_split(rt.alloc(), &mut world, b"m", b"45", None)?;
-    assert!(rt; unsure == Some(Refusal::Unresolved));
+fn of_offline(rt: HostRuntime) -> Result<(), Fail> {
+    assert_eq!(rt; wrong_of(rt.alloc(), &START, &OFFLINE)?, None);
     Ok(())
 }
 
 #[test]
-fn a_location_to_move_to(rt: HostRuntime) -> Result<(), Fail> {
-    let mut world = store(rt.alloc())?;
-    let locked = of_move(rt.alloc(), &mut world, b"m", b"45", b"s/z", None)?;
-    assert!(rt; locked == Some(Refusal::Locked));
-    let unknown = of_move(rt.alloc(), &mut world, b"m", b"45", b"s/z", Some(TOKEN))?;
-    assert!(rt; unknown == Some(Refusal::NoLocation));
-    let no_shard = of_move(rt.alloc(), &mut world, b"l", b"5", b"s/b", None)?;
-    assert!(rt; no_shard == Some(Refusal::NotAShard));
-    let same = of_move(rt.alloc(), &mut world, b"m", b"5", b"s/a", None)?;
-    assert!(rt; same == Some(Refusal::SameShard));
-    let online = of_move(rt.alloc(), &mut world, b"m", b"5", b"s/b", None)?;
-    assert!(rt; online == Some(Refusal::NotOffline));
+fn of_online(rt: HostRuntime) -> Result<(), Fail> {
+    assert_eq!(rt; wrong_of(rt.alloc(), &START, &ONLINE)?, None);
     Ok(())
 }
 
 #[test]
-fn a_site_to_move_to(rt: HostRuntime) -> Result<(), Fail> {
-    let mut world = store_away(rt.alloc(), b"s/b", Away::Detached)?;
-    let no_shard = of_move(rt.alloc(), &mut world, b"l", b"5", b"s/b", None)?;
-    assert!(rt; no_shard == Some(Refusal::NotAShard));
-    let detached = of_move(rt.alloc(), &mut world, b"m", b"5", b"s/b", None)?;
-    assert!(rt; detached == Some(Refusal::Detached));
-    let mut world = store_away(rt.alloc(), b"s/b", Away::Suspect)?;
-    let unsure = of_move(rt.alloc(), &mut world, b"m", b"5", b"s/b", None)?;
-    assert!(rt; unsure == Some(Refusal::Unresolved));
+fn of_move(rt: HostRuntime) -> Result<(), Fail> {
+    assert_eq!(rt; wrong_of(rt.alloc(), &START, &MOVE)?, None);
     Ok(())
 }
 
 #[test]
-fn a_key_to_split_at(rt: HostRuntime) -> Result<(), Fail> {
-    let mut world = store(rt.alloc())?;
-    let list = of_split(rt.alloc(), &mut world, b"l", b"x", None)?;
-    assert!(rt; list == Some(Refusal::WrongKind));
-    let bad_key = of_split(rt.alloc(), &mut world, b"m", b"x", None)?;
-    assert!(rt; bad_key == Some(Refusal::BadKey));
-    let locked = of_split(rt.alloc(), &mut world, b"m", b"40", None)?;
-    assert!(rt; locked == Some(Refusal::Locked));
-    let low = of_split(rt.alloc(), &mut world, b"m", b"40", Some(TOKEN))?;
-    assert!(rt; low == Some(Refusal::BadSplit));
+fn of_the_sites_of_move(rt: HostRuntime) -> Result<(), Fail> {
+    assert_eq!(rt; wrong_of(rt.alloc(), &START, &SITES)?, None);
     Ok(())
 }
 
 #[test]
-fn a_mapping_to_merge_with(rt: HostRuntime) -> Result<(), Fail> {
-    let mut world = store(rt.alloc())?;
-    let list = of_merge(rt.alloc(), &mut world, b"l", b"x", None)?;
-    assert!(rt; list == Some(Refusal::WrongKind));
-    let locked = of_merge(rt.alloc(), &mut world, b"m", b"45", None)?;
-    assert!(rt; locked == Some(Refusal::Locked));
-    let last = of_merge(rt.alloc(), &mut world, b"m", b"45", Some(TOKEN))?;
-    assert!(rt; last == Some(Refusal::NotMergeable));
-    let status = of_merge(rt.alloc(), &mut world, b"m", b"15", None)?;
-    assert!(rt; status == Some(Refusal::NotMergeable));
-    let token = of_merge(rt.alloc(), &mut world, b"m", b"35", None)?;
-    assert!(rt; token == Some(Refusal::NotMergeable));
+fn of_split(rt: HostRuntime) -> Result<(), Fail> {
+    assert_eq!(rt; wrong_of(rt.alloc(), &START, &SPLIT)?, None);
     Ok(())
 }
 
 #[test]
-fn a_status_that_it_has(rt: HostRuntime) -> Result<(), Fail> {
-    let mut world = store(rt.alloc())?;
-    let online = of_online(rt.alloc(), &mut world, b"5", None)?;
-    assert!(rt; online == Some(Refusal::SameStatus));
-    let offline = of_offline(rt.alloc(), &mut world, b"25", None)?;
-    assert!(rt; offline == Some(Refusal::SameStatus));
-    let locked = of_offline(rt.alloc(), &mut world, b"45", None)?;
-    assert!(rt; locked == Some(Refusal::Locked));
-    let other = of_online(rt.alloc(), &mut world, b"45", Some(OTHER))?;
-    assert!(rt; other == Some(Refusal::Locked));
-    assert!(rt; of_online(rt.alloc(), &mut world, b"45", Some(TOKEN))?.is_none());
+fn of_merge(rt: HostRuntime) -> Result<(), Fail> {
+    assert_eq!(rt; wrong_of(rt.alloc(), &START, &MERGE)?, None);
+    Ok(())
+}
+
+#[test]
+fn of_mappings_that_differ(rt: HostRuntime) -> Result<(), Fail> {
+    assert_eq!(rt; wrong_of(rt.alloc(), &START, &CAUSES)?, None);
+    Ok(())
+}
+
+#[test]
+fn of_lock(rt: HostRuntime) -> Result<(), Fail> {
+    assert_eq!(rt; wrong_of(rt.alloc(), &START, &LOCK)?, None);
+    Ok(())
+}
+
+#[test]
+fn of_unlock(rt: HostRuntime) -> Result<(), Fail> {
+    assert_eq!(rt; wrong_of(rt.alloc(), &START, &UNLOCK)?, None);
     Ok(())
 }

@@ -1,11 +1,9 @@
 //! A store with mappings of several kinds, and what a command is told over it.
-ghost use Rattle.std.specs.Prelude.{◌≡◌, true, IsTrue};
-ghost use Rattle.cell_world.specs.Spelled.{is_spelled};
-ghost use Rattle.mapping_plans.specs.Commands.{is_mapping};
+ghost use Rattle.std.specs.Prelude.{◌≡◌, true};
+ghost use Rattle.map_ops.specs.Planning.{is_asked};
 
-use cell_world::cells::{Away, Cell, KeyType, MapKind, RowName, Site, Status, Token};
+use cell_world::cells::{Cell, KeyType, MapKind, Site, Status, Token};
 use cell_world::changes::Change;
-use cell_world::items::RowBytes;
 use cell_world::key_texts::KeyText;
 use cell_world::locations::Location;
 use cell_world::names::Name;
@@ -14,7 +12,7 @@ use cell_world::operations::Piece;
 use cell_world::outside::World;
 use cell_world::spans::{High, Span};
 use global_tables::known::KnownTables;
-use mapping_plans::planning::plan_mapping;
+use mapping_plans::plans::plan;
 use plain_model::commands::Command;
 use plain_model::plans::{Plan, PlanStop};
 use plain_model::replies::Refusal;
@@ -63,16 +61,6 @@ fn empty_world(alloc: Global) -> Result<MemoryWorld, Fail> {
         return Err(Fail::from("one location"));
     }
     Ok(MemoryWorld::new(alloc, &[here, there])?)
-}
-
-/// Puts one cell.
-pub(crate) fn put(alloc: Global, world: &mut MemoryWorld, cell: Cell) -> Result<(), Fail>
-    requires { IsTrue (is_spelled cell) }
-{
-    let mut change = Change::empty(alloc);
-    change.put(cell)?;
-    world.commit(alloc, Site::GLOBAL, &change)?;
-    Ok(())
 }
 
 /// Puts a mapping of ten keys of `m` at `s/a`.
@@ -135,40 +123,16 @@ pub(crate) fn store(alloc: Global) -> Result<MemoryWorld, Fail> {
     Ok(world)
 }
 
-/// The store with the site in a state.
-pub(crate) fn store_away(alloc: Global, at: &[u8], state: Away) -> Result<MemoryWorld, Fail> {
-    let mut world = store(alloc)?;
-    put(alloc, &mut world, Cell::SiteState(place(at)?, state))?;
-    Ok(world)
-}
-
-/// Puts a row of `m` under the key at `s/a`.
-pub(crate) fn put_row(alloc: Global, world: &mut MemoryWorld, number: u32) -> Result<(), Fail> {
-    let row = RowName {
-        map: name(b"m")?,
-        key: key(number)?,
-        table: name(b"t")?,
-        number: 1,
-    };
-    let bytes = RowBytes::from_vec(Vec::new(alloc)).ok_or("a row's bytes")?;
-    let mut change = Change::empty(alloc);
-    change.put(Cell::Row(row, bytes))?;
-    match world.locate(&place(b"s/a")?) {
-        None => Err(Fail::from("no such site")),
-        Some(site) => Ok(world.commit(alloc, site, &change)?),
-    }
-}
-
 /// The plan of a command over the world, by a copy of its tables as they stand.
 pub(crate) fn planned(
     alloc: Global,
     world: &mut MemoryWorld,
     command: &Command,
 ) -> Result<Result<Plan, PlanStop>, Fail>
-    requires { is_mapping command.now ≡ true }
+    requires { is_asked command.now ≡ true }
 {
     let known = KnownTables::read(alloc, world)?;
-    Ok(plan_mapping(alloc, world, &known, command))
+    Ok(plan(alloc, world, &known, command))
 }
 
 /// The refusal that a command gets, if it gets one.
@@ -177,7 +141,7 @@ pub(crate) fn refusal(
     world: &mut MemoryWorld,
     command: &Command,
 ) -> Result<Option<Refusal>, Fail>
-    requires { is_mapping command.now ≡ true }
+    requires { is_asked command.now ≡ true }
 {
     let found = planned(alloc, world, command)?;
     match &found {

@@ -1,6 +1,6 @@
 //! What the changes of accepted commands leave.
 ghost use Rattle.std.specs.Prelude.{◌≡◌, true};
-ghost use Rattle.map_ops.specs.Planning.{is_asked};
+ghost use Rattle.map_ops.specs.Planning.{is_planned_here};
 
 use crate::stores::{done, here, name, planned, refusal, store};
 use cell_world::operations::Reach;
@@ -43,7 +43,7 @@ fn a_shard_comes_and_goes(rt: HostRuntime) -> Result<(), Fail> {
 
 /// Whether the plan of a command reaches a shard.
 fn reaches_shard(alloc: Global, world: &mut MemoryWorld, command: &Command) -> Result<bool, Fail>
-    requires { is_asked command.now ≡ true }
+    requires { is_planned_here command.now ≡ true }
 {
     let found = planned(alloc, world, command)?;
     match &found {

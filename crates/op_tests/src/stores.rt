@@ -1,7 +1,7 @@
 //! A small store, and what a command is told over it.
 ghost use Rattle.std.specs.Prelude.{◌≡◌, true, IsTrue};
 ghost use Rattle.cell_world.specs.Spelled.{is_spelled};
-ghost use Rattle.map_ops.specs.Planning.{is_asked};
+ghost use Rattle.map_ops.specs.Planning.{is_planned_here};
 
 use cell_world::cells::{Away, Cell, KeyType, MapKind, Site, Status};
 use cell_world::changes::Change;
@@ -117,7 +117,7 @@ pub(crate) fn planned(
     world: &mut MemoryWorld,
     command: &Command,
 ) -> Result<Result<Plan, PlanStop>, Fail>
-    requires { is_asked command.now ≡ true }
+    requires { is_planned_here command.now ≡ true }
 {
     let known = KnownTables::read(alloc, world)?;
     Ok(plan(alloc, world, &known, command))
@@ -129,7 +129,7 @@ pub(crate) fn refusal(
     world: &mut MemoryWorld,
     command: &Command,
 ) -> Result<Option<Refusal>, Fail>
-    requires { is_asked command.now ≡ true }
+    requires { is_planned_here command.now ≡ true }
 {
     let found = planned(alloc, world, command)?;
     match &found {
@@ -141,7 +141,7 @@ pub(crate) fn refusal(
 
 /// Does a command: its change is committed.
 pub(crate) fn done(alloc: Global, world: &mut MemoryWorld, command: &Command) -> Result<usize, Fail>
-    requires { is_asked command.now ≡ true }
+    requires { is_planned_here command.now ≡ true }
 {
     let found = planned(alloc, world, command)?;
     match &found {
