@@ -215,7 +215,7 @@ fn comes_and_goes(alloc: Global, cell: Cell, key: &CellKey) -> Result<bool, Fail
 }
 
 /// The world that a crash now leaves.
-fn crashed_now(alloc: Global, world: &MemoryWorld) -> Result<MemoryWorld, Fail> {
+pub fn crashed_now(alloc: Global, world: &MemoryWorld) -> Result<MemoryWorld, Fail> {
     let moment = world.moment();
     Ok(world.crashed(alloc, moment)?)
 }

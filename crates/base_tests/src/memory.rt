@@ -27,7 +27,7 @@ fn is_table(found: &Option<Cell>, name: &Name) -> bool {
 }
 
 /// Two tables of a map.
-fn tables(alloc: Global) -> Result<Change, Fail> {
+pub fn tables(alloc: Global) -> Result<Change, Fail> {
     let map = name(b"orders")?;
     let mut change = Change::empty(alloc);
     change.put(Cell::Table(map, name(b"notes")?))?;

@@ -13,7 +13,7 @@ use Rattle.cell_world.specs.declared.changes.Edit.{Edit}
 use Rattle.cell_world.proofs.KeyedLaws.{cell_at-empty}
 use Rattle.world_memory.specs.declared.contents.SiteKey.{SiteKey}
 use Rattle.world_memory.specs.declared.contents.Made.{Made}
-use Rattle.world_memory.specs.declared.contents.Made.TheVariants.{Committed, Wrote, Reopened}
+use Rattle.world_memory.specs.declared.contents.Made.TheVariants.{Committed, Tried, Wrote, Reopened}
 use Rattle.world_memory.specs.contracts.contents.SiteKeyOrd.TheImpl.{ghosts}
 use Rattle.world_memory.specs.Kept.{Holds, IsAt, edits_at, all_edits, edits_of, next_edits, store_after}
 
@@ -157,5 +157,6 @@ one_more happened h m done part at = ⊎_elim
 -- What isn't a commit has no edits.
 pub not_commit : (h : Made) → ((at : Site) (change : List Edit) → h ≡ Committed at change → ⊥) → (n : ℕ) → edits_at n h ≡ []
 not_commit (Committed at change) other n = absurd (other at change refl)
+not_commit (Tried at change) other n = refl
 not_commit (Wrote bytes) other n = refl
 not_commit (Reopened at) other n = refl

@@ -4,7 +4,9 @@ pub mod Found
 pub mod NextKey
 pub mod Now
 pub mod Places
+pub mod Planned
 pub mod Scanned
 pub mod SiteOrder
 pub mod Table
 pub mod Trails
+pub mod Worlds

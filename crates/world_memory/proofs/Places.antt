@@ -75,6 +75,11 @@ after_entry locations image n place (kept.Committed at change) apart is = by (pl
         held : (b : Bool) → same_place p place ≡ b → (if b then changed (image.at p) change else image.at place) ≡ image.at place
         held true g = absurd (apart_from n at.0 (one_site locations n at.0 place apart is (e ∙ ap Some (same_place_is p place g))) f)
         held false g = refl
+after_entry locations image n place (kept.Tried at change) apart is = by (place_at locations at.0)
+  where
+    by : (p : Option Place) → (after_one image (unwrap_or (option_map (λ q. Committed q change false) p) (Wrote []))).at place ≡ image.at place
+    by None = refl
+    by (Some p) = refl
 after_entry locations image n place (kept.Wrote bytes) apart is = refl
 after_entry locations image n place (kept.Reopened at) apart is = by (place_at locations at.0)
   where

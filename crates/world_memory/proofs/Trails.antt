@@ -1,16 +1,16 @@
 -- The trail of what is kept.
-use Rattle.std.proofs.Common.{◌≡◌, ℕ, suc, zero, ◌+◌, ◌≤◌, ◌<◌, List, [], ◌∷◌, ◌++◌, length, take, drop, get_or, refl, sym, ap, ◌∙◌, arith, true, Option, Some, None, option_map, unwrap_or, append_assoc, length-drop}
+use Rattle.std.proofs.Common.{◌≡◌, ℕ, suc, zero, ◌+◌, ◌≤◌, ◌<◌, List, [], ◌∷◌, ◌++◌, length, take, drop, get_or, refl, sym, ap, ◌∙◌, arith, true, false, replicate, Option, Some, None, option_map, unwrap_or, append_assoc, length-drop}
 use Rattle.std.proofs.Math.ListN.{drop_of_length-le}
 use Rattle.std.proofs.lemmas.List.{take_more, length-take, take_all, take-append-le, drop-append-le, take-append-drop}
 use Rattle.cell_world.specs.Texts.{Text}
-use Rattle.cell_world.specs.Images.{Image, Place, Happening, Committed, Wrote, Reopened, after_one, after_all, empty_image, image_at, end_of_trail, extended, written}
-use Rattle.cell_world.specs.Outside.{place_at}
+use Rattle.cell_world.specs.Images.{Image, Place, Trail, Happening, Committed, Wrote, Reopened, after_one, after_all, empty_image, image_at, end_of_trail, extended, written}
+use Rattle.cell_world.specs.Outside.{TellsTrail, place_at}
 use Rattle.cell_world.specs.declared.cells.Site.{Site}
 use Rattle.world_memory.specs.declared.contents.Made.{Made}
 use Rattle.world_memory.specs.declared.contents.Made.TheVariants as kept
 use Rattle.std.specs.List.{AllByRecursion}
 use Rattle.world_memory.specs.Kept.{IsKept}
-use Rattle.world_memory.specs.Told.{at_place, told_as, story, leaves, begins, trail_from, tells, fresh, wrote}
+use Rattle.world_memory.specs.Told.{at_place, told_as, story, leaves, begins, trail_from, failed_at, tells, fresh, wrote}
 
 story_length : (l : List Text) (image : Image) (hs : List Made) → length (story l image hs) ≡ length hs
 story_length l image [] = refl
@@ -59,14 +59,27 @@ trail_added l hs h start within =
     (λ i. record { start = leaves l (empty_image l) (front i); happened = story l (leaves l (empty_image l) (front i)) (rest i) })
     ∙ ap (λ r. record { start = image; happened = r }) (story_added l image (drop start hs) h ∙ ap (λ j. story l image (drop start hs) ++ told_as l j h ∷ []) before)
 
+-- no call at any site failed
+none_failed : (n site : ℕ) → failed_at (replicate n 0) site ≡ 0
+none_failed n site = let is = zero_at n site in grind (arith, is)
+  where
+    zero_at : (m k : ℕ) → get_or (let zeros : List ℕ = replicate m 0 in zeros) k 0 ≡ 0
+    zero_at zero k = refl
+    zero_at (suc m) zero = refl
+    zero_at (suc m) (suc k) = zero_at m k
+
+-- a world that was just made
+pub made_anew : (l : List Text) (image : Image) (trail : Trail) (failed : List ℕ) (n : ℕ) → trail ≡ record { start = image; happened = [] } → failed ≡ replicate n 0 → tells l trail failed 0 0 ≡ fresh l image
+made_anew l image trail failed n is zeros = (λ i. tells l (is i) (zeros i) 0 0) ∙ (λ i. record { locations = l; told = TellsTrail (record { start = image; happened = [] }); faults_at = λ site. none_failed n site i; sink_faults = 0; global_reads = 0 })
+
 -- what a crash leaves
-pub crash : (l : List Text) (hs : List Made) (start moment : ℕ) → tells l (trail_from l (take (start + moment) hs) (start + moment)) 0 ≡ fresh l (image_at (trail_from l hs start) moment)
+pub crash : (l : List Text) (hs : List Made) (start moment : ℕ) → trail_from l (take (start + moment) hs) (start + moment) ≡ record { start = image_at (trail_from l hs start) moment; happened = [] }
 crash l hs start moment =
     let n = start + moment in
     let front : take n (take n hs) ≡ take n hs = take_all n (take n hs) (omega (arith, length-take n hs)) in
     let rest : drop n (take n hs) ≡ [] = drop_of_length-le (take n hs) (omega (arith, length-take n hs)) in
-    (λ i. tells l (record { start = leaves l (empty_image l) (front i); happened = story l (leaves l (empty_image l) (front i)) (rest i) }) 0)
-    ∙ ap (λ j. fresh l j) (sym (image_then l hs start moment))
+    (λ i. record { start = leaves l (empty_image l) (front i); happened = story l (leaves l (empty_image l) (front i)) (rest i) })
+    ∙ ap (λ j. record { start = j; happened = [] }) (sym (image_then l hs start moment))
 
 -- what happens at a place writes nothing
 none_written : (l : List Text) (image : Image) (at : Site) (h : Place → Happening) (rest : List Happening) → ((p : Place) → written (h p ∷ rest) ≡ written rest) → written (at_place l at h ∷ rest) ≡ written rest
@@ -81,6 +94,7 @@ pub all_written : (l : List Text) (image : Image) (hs : List Made) → written (
 all_written l image [] = refl
 all_written l image (kept.Wrote bytes ∷ hs) = ap (λ r. bytes ++ r) (all_written l image hs)
 all_written l image (kept.Committed at change ∷ hs) = none_written l image at (λ p. Committed p change true) _ (λ p. refl) ∙ all_written l (after_one image (told_as l image (kept.Committed at change))) hs
+all_written l image (kept.Tried at change ∷ hs) = none_written l image at (λ p. Committed p change false) _ (λ p. refl) ∙ all_written l (after_one image (told_as l image (kept.Tried at change))) hs
 all_written l image (kept.Reopened at ∷ hs) = none_written l image at (λ p. Reopened p (image.at p)) _ (λ p. refl) ∙ all_written l (after_one image (told_as l image (kept.Reopened at))) hs
 
 -- the first so many of what is kept are changes
@@ -98,6 +112,7 @@ wrote_joined : (hs gs : List Made) → wrote (hs ++ gs) ≡ wrote hs ++ wrote gs
 wrote_joined [] gs = refl
 wrote_joined (kept.Wrote bytes ∷ hs) gs = ap (λ r. bytes ++ r) (wrote_joined hs gs) ∙ sym (append_assoc bytes (wrote hs) (wrote gs))
 wrote_joined (kept.Committed at change ∷ hs) gs = wrote_joined hs gs
+wrote_joined (kept.Tried at change ∷ hs) gs = wrote_joined hs gs
 wrote_joined (kept.Reopened at ∷ hs) gs = wrote_joined hs gs
 
 -- the bytes of one entry more

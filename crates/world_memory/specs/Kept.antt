@@ -8,18 +8,20 @@ use Rattle.cell_world.specs.declared.cells.Cell.{Cell}
 use Rattle.cell_world.specs.declared.changes.Edit.{Edit}
 use Rattle.world_memory.specs.declared.contents.SiteKey.{SiteKey}
 use Rattle.world_memory.specs.declared.contents.Made.{Made}
-use Rattle.world_memory.specs.declared.contents.Made.TheVariants.{Committed, Wrote, Reopened}
+use Rattle.world_memory.specs.declared.contents.Made.TheVariants.{Committed, Tried, Wrote, Reopened}
 use Rattle.world_memory.specs.contracts.contents.SiteKeyOrd.TheImpl.{ghosts}
 
--- the edits of a change
+-- the edits that an entry makes
 abbrev pub all_edits : Made → List Edit
 all_edits (Committed at change) = change
+all_edits (Tried at change) = []
 all_edits (Wrote bytes) = []
 all_edits (Reopened at) = []
 
 -- the edits that are made at a site
 abbrev pub edits_at : ℕ → Made → List Edit
 edits_at site (Committed at change) = if site == at.0 then change else []
+edits_at site (Tried at change) = []
 edits_at site (Wrote bytes) = []
 edits_at site (Reopened at) = []
 

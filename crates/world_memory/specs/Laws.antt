@@ -1,7 +1,8 @@
 -- A world in memory keeps the laws of worlds.
 use Rattle.std.specs.Prelude.{◌≡◌, ℕ, ◌≤◌, suc, zero, Bool, true, false, if◌then◌else◌, List, [], ◌∷◌, take, drop, length, Option, Some, None, option_map, unwrap_or, IsTrue, refl}
 use Rattle.std.specs.List.{AllByRecursion, IsDistinct}
-use Rattle.std.proofs.Common.{◌∙◌, zero-le}
+use Rattle.std.proofs.Common.{◌∙◌}
+use Rattle.std.proofs.Math.Nat.{min-le_right}
 use Rattle.cell_world.specs.Texts.{Text, is_location}
 use Rattle.cell_world.specs.Keys.{same}
 use Rattle.cell_world.specs.Counts.{last_count}
@@ -26,6 +27,11 @@ image_one locations image (kept.Committed at change) are is = by (place_at locat
     by : (p : Option Place) → IsImage (after_one image (unwrap_or (option_map (λ place. Committed place change true) p) (Wrote [])))
     by None = is
     by (Some p) = λ q. one_of (same_place p q) _ _ (store_edits (image.at p) change are (is p)) (is q)
+image_one locations image (kept.Tried at change) are is = by (place_at locations at.0)
+  where
+    by : (p : Option Place) → IsImage (after_one image (unwrap_or (option_map (λ place. Committed place change false) p) (Wrote [])))
+    by None = is
+    by (Some p) = is
 image_one locations image (kept.Wrote bytes) are is = is
 image_one locations image (kept.Reopened at) are is = by (place_at locations at.0)
   where
@@ -55,6 +61,11 @@ same_locations locations image (kept.Committed at change) = by (place_at locatio
     by : (p : Option Place) → (after_one image (unwrap_or (option_map (λ place. Committed place change true) p) (Wrote []))).locations ≡ image.locations
     by None = refl
     by (Some p) = refl
+same_locations locations image (kept.Tried at change) = by (place_at locations at.0)
+  where
+    by : (p : Option Place) → (after_one image (unwrap_or (option_map (λ place. Committed place change false) p) (Wrote []))).locations ≡ image.locations
+    by None = refl
+    by (Some p) = refl
 same_locations locations image (kept.Wrote bytes) = refl
 same_locations locations image (kept.Reopened at) = by (place_at locations at.0)
   where
@@ -66,14 +77,14 @@ over_all : (locations : List Text) (image : Image) (hs : List Made) → (leaves 
 over_all locations image [] = refl
 over_all locations image (h ∷ hs) = over_all locations (after_one image (told_as locations image h)) hs ∙ same_locations locations image h
 
-pub is_world : (locations : List Text) (happened : List Made) (start reads : ℕ) → AllByRecursion (λ location. IsTrue (is_location location)) locations → IsDistinct same locations → length locations ≤ MOST_LOCATIONS → AllByRecursion IsKept happened → reads ≤ last_count
-    → IsWorld (tells locations (trail_from locations happened start) reads)
-is_world locations happened start reads spelled distinct few are counted = record {
+pub is_world : (locations : List Text) (happened : List Made) (failed : List ℕ) (start sink reads : ℕ) → AllByRecursion (λ location. IsTrue (is_location location)) locations → IsDistinct same locations → length locations ≤ MOST_LOCATIONS → AllByRecursion IsKept happened → sink ≤ last_count → reads ≤ last_count
+    → IsWorld (tells locations (trail_from locations happened start) failed sink reads)
+is_world locations happened failed start sink reads spelled distinct few are sunk counted = record {
   spelled = spelled;
   distinct = distinct;
   few = few;
-  faults = λ site. zero-le;
-  sink = zero-le;
+  faults = λ site. min-le_right _ _;
+  sink = sunk;
   reads = counted;
   over = over_all locations (empty_image locations) (take start happened);
   cells = λ moment. image_story locations (begins locations happened start) (drop start happened) moment (kept_drop happened start are) (image_leaves locations (empty_image locations) happened start are (λ place. store_empty));

@@ -16,6 +16,8 @@ use std::collections::BTreeMap;
 pub enum Made {
     /// A change was made at a site.
     Committed(Site, Change),
+    /// A change was tried at a site, and wasn't made.
+    Tried(Site, Change),
     /// Bytes went to the output.
     Wrote(Items<u8>),
     /// A site was opened again. It held what it holds.

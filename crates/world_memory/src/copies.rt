@@ -72,6 +72,10 @@ pub fn happened_copied(happened: &[Made], alloc: Global) -> Result<Vec<Made>, Me
                 let change = change_copied(change, alloc)?;
                 copy.push(Made::Committed(*site, change)).is_ok()
             }
+            Made::Tried(site, change) => {
+                let change = change_copied(change, alloc)?;
+                copy.push(Made::Tried(*site, change)).is_ok()
+            }
             Made::Wrote(bytes) => {
                 let bytes = bytes_copied(bytes.as_slice(), alloc)?;
                 copy.push(Made::Wrote(bytes)).is_ok()

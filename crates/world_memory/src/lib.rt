@@ -3,6 +3,7 @@
 
 mod contents;
 mod copies;
+pub mod faults;
 mod find;
 pub mod source;
 pub mod world;

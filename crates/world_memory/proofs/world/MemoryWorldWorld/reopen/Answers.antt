@@ -1,19 +1,22 @@
-use Rattle.std.specs.Result.{is_ok}
-use Rattle.world_memory.specs.declared.contents.Made.TheVariants as kept
-use Rattle.world_memory.proofs.Now.{kept_after, within_after, at_after, has_reopened, pushed}
+use Rattle.std.proofs.Common.{◌≡◌, sym, ◌∙◌, refl, None}
+use Rattle.world_memory.specs.Faults.{reopen_by}
+use Rattle.world_memory.specs.Memory.{outside_of}
+use Rattle.world_memory.specs.Told.{trail_from}
+use Rattle.world_memory.proofs.Now.{has_reopened}
+use Rattle.world_memory.proofs.Planned.{not_named, reopened}
+use Rattle.world_memory.proofs.Worlds.{law_of}
 use Rattle.world_memory.proofs.world.MemoryWorldWorld.reopen.Goals as goal
+use Rattle.world_memory.proofs.world.MemoryWorldWorld.reopen.Goals.{In_ok-keep}
 
-pub invariant_of-self : goal.invariant_of-self
-invariant_of-self c = record {
-  spelled = c.args.self.now.spelled;
-  distinct = c.args.self.now.distinct;
-  few = c.args.self.now.few;
-  kept = kept_after c.args.self.now.happened.items (kept.Reopened c.args.site) (is_ok c.push.result) c.push.new.self.items c.push.ensures.items c.args.self.now.kept tt;
-  within = within_after c.args.self.now.happened.items (kept.Reopened c.args.site) (is_ok c.push.result) c.push.new.self.items c.args.self.now.start c.push.ensures.items c.args.self.now.within;
-  at = at_after c.args.self.now.happened.items (kept.Reopened c.args.site) (is_ok c.push.result) c.push.new.self.items c.args.self.now.contents.cells c.args.self.now.contents.done c.args.self.now.contents.part c.push.ensures.items c.args.self.now.at;
-  counted = c.args.self.now.counted;
-}
+kept : (c : In_ok-keep) → outside_of c.keep.new.self ≡ reopen_by (outside_of c.args.self.now) c.args.site None
+kept c =
+    let w = c.args.self.now in
+    c.in_ok-keep.ensures.ok ∙ has_reopened w.locations.items w.happened.items w.failed.items w.start w.sink w.reads w.within c.args.site c.requires
+
+pub returns-clause-plan : goal.returns-clause-plan
+returns-clause-plan c = (sym c.called-named.ensures.says ∙ not_named c.called-named.result c.if-is_some.ensures, kept c)
 
 pub returns-clause-reopened : goal.returns-clause-reopened
-returns-clause-reopened c = has_reopened c.args.self.now.locations.items c.args.self.now.happened.items c.args.self.now.start c.args.self.now.reads c.args.self.now.within c.args.site c.requires c.args.self.now.distinct c.args.self.now.kept c.push.new.self.items
-    (pushed c.args.self.now.happened.items (kept.Reopened c.args.site) c.push.new.self.items c.push.result c.if-is_err.ensures.value c.push.ensures.items)
+returns-clause-reopened c =
+    let w = c.args.self.now in
+    reopened (outside_of w) (outside_of c.keep.new.self) (trail_from w.locations.items w.happened.items w.start) c.args.site refl c.requires (law_of w) (kept c)
