@@ -10,7 +10,8 @@ use Rattle.cell_world.specs.declared.operations.Reach.{Reach}
 use Rattle.cell_world.specs.declared.operations.Reach.TheVariants as reach
 use Rattle.cell_world.proofs.ContentsLaws.{contents_all, contents_weaker}
 use Rattle.global_tables.specs.Known.{Known, known_of}
-use Rattle.map_ops.specs.Planning.{is_asked, is_planned}
+use Rattle.map_ops.specs.Planning.{is_asked}
+use Rattle.plain_model.specs.ShortCommands.{is_short, is_short_answer, is_short_refusal, standing_with, IsRefusedWith, IsShortAnswer}
 use Rattle.plain_model.specs.declared.commands.Command.{Command}
 use Rattle.plain_model.specs.declared.commands.Command.TheVariants as command
 use Rattle.plain_model.specs.declared.replies.Reply.{Reply}
@@ -18,7 +19,6 @@ use Rattle.plain_model.specs.declared.replies.Reply.TheVariants as reply
 use Rattle.plain_model.specs.declared.replies.Refusal.{Refusal}
 use Rattle.plain_model.specs.OnTrail.{reach_of_command}
 use Rattle.plain_model.specs.Refusing.{refusal}
-use Rattle.plain_model.specs.ShortCommands.{is_short_answer, is_short_refusal, standing_with, IsShortAnswer, IsRefusedWith}
 use Rattle.session_laws.specs.Doing.{AllDoing}
 use Rattle.manager_core.specs.Asking.{AnswersNow}
 use Rattle.manager_core.specs.Coming.{AsksExactly, ClearStep, ClearsNone, HappensAsking, IsInWay, SettleStep, TriesFor}
@@ -28,13 +28,15 @@ use Rattle.manager_core.proofs.TidyLaws.{tidied_none}
 
 -- ---- a command that changes nothing reaches nothing
 
--- of the commands that reach something `unshard` alone is planned as a short one, and it is answered `ok`
-pub answer_reaches_nothing : (session : ℕ) (c : Command) (r : Reply) (image : Image) → is_planned c ≡ true → (r ≡ reply.Ok → ⊥) → IsShortAnswer session c r image → reach_of_command (meaning image) c ≡ reach.Nothing
+-- of the short commands `unshard`, `lock` and `unlock` alone reach something, and each is answered `ok`
+pub answer_reaches_nothing : (session : ℕ) (c : Command) (r : Reply) (image : Image) → is_short c ≡ true → (r ≡ reply.Ok → ⊥) → IsShortAnswer session c r image → reach_of_command (meaning image) c ≡ reach.Nothing
 answer_reaches_nothing session (command.Map name kind type) r image planned other so = refl
 answer_reaches_nothing session (command.Unmap name) r image planned other so = refl
 answer_reaches_nothing session (command.Shard name location) r image planned other so = refl
 answer_reaches_nothing session (command.Unshard name location) r image planned other so = absurd (other (sym (ap (λ (p : PlainState × Reply). p.1) (so nobody).1)))
 answer_reaches_nothing session (command.Table name table) r image planned other so = refl
+answer_reaches_nothing session (command.Lock name key token) r image planned other so = absurd (other (sym (ap (λ (p : PlainState × Reply). p.1) (so nobody).1)))
+answer_reaches_nothing session (command.Unlock name key token) r image planned other so = absurd (other (sym (ap (λ (p : PlainState × Reply). p.1) (so nobody).1)))
 answer_reaches_nothing session (command.Find name key) r image planned other so = refl
 answer_reaches_nothing session (command.List name) r image planned other so = refl
 answer_reaches_nothing session (command.Shards name) r image planned other so = refl
@@ -123,7 +125,7 @@ module _ (c : Command) (asked : is_asked c ≡ true) (known : Known) (before : A
   no_pending : (r : Reply) (number : ℕ) → is_short_answer r ≡ true → r ≡ reply.Pending number → ⊥
   no_pending r number answer is = let both : is_short_answer (reply.Pending number) ≡ true = subst (λ s. is_short_answer s ≡ true) is answer in cc
 
-  pub now_answer : (r : Reply) → is_short_answer r ≡ true → (r ≡ reply.Ok → ⊥) → is_planned c ≡ true → PlanSays (λ image. (session : ℕ) → IsShortAnswer session c r image) → AnswersNow c r known known before old new
+  pub now_answer : (r : Reply) → is_short_answer r ≡ true → (r ≡ reply.Ok → ⊥) → is_short c ≡ true → PlanSays (λ image. (session : ℕ) → IsShortAnswer session c r image) → AnswersNow c r known known before old new
   now_answer r answer other planned says = record {
     ends = λ session rests. answer_quietly session c asked before rests old new same known r answer planned
         (λ steady copy. contents_weaker old.told (λ image. (session : ℕ) → IsShortAnswer session c r image) (IsShortAnswer session c r) (λ image so. so session)

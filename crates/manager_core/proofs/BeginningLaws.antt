@@ -1,5 +1,5 @@
 -- A command whose operation is planned begins, or is answered at once.
-use Rattle.std.proofs.Common.{◌≡◌, ℕ, ◌<◌, ◌≤◌, ◌^◌, true, refl, sym, ap, ◌∙◌, subst, arith, Some, None, Option, List, [], ◌∷◌}
+use Rattle.std.proofs.Common.{◌≡◌, ℕ, ◌<◌, ◌≤◌, ◌^◌, true, refl, sym, ◌∙◌, subst, arith, Some, None, Option, List, [], ◌∷◌}
 use Rattle.std.specs.Prelude.{Ok, Err}
 use Rattle.cell_world.specs.Images.{Image, Happening, after_all, global}
 use Rattle.cell_world.specs.Plain.{nobody}
@@ -11,13 +11,13 @@ use Rattle.cell_world.specs.declared.operations.Op.{Op}
 use Rattle.cell_world.specs.declared.operations.StageName.TheVariants.{Logged}
 use Rattle.cell_world.proofs.ContentsLaws.{contents_all, contents_both, contents_weaker}
 use Rattle.global_tables.specs.Known.{Known, known_of}
-use Rattle.map_ops.specs.Planning.{PlansLong, is_long_planned}
+use Rattle.map_ops.specs.Planning.{PlansLong, is_long}
 use Rattle.plain_model.specs.declared.commands.Command.{Command}
-use Rattle.plain_model.specs.declared.commands.Command.TheVariants as command
 use Rattle.plain_model.specs.declared.history.Entry.{Entry}
 use Rattle.plain_model.specs.declared.replies.Reply.TheVariants as reply
 use Rattle.plain_model.specs.declared.replies.Refusal.TheVariants as refused
 use Rattle.plain_model.specs.JobSteps.{asked_number}
+use Rattle.plain_model.specs.Refusing.{given_token}
 use Rattle.plain_model.specs.Timelines.{Past}
 use Rattle.op_steps.specs.Beginning.{Begins, BeginStep, HasBegun, numbered}
 use Rattle.op_steps.specs.Clearing.{IsAbandonedInWay}
@@ -34,24 +34,26 @@ use Rattle.session_laws.specs.Core.{CoreAlone, IsTriedFor}
 use Rattle.session_laws.specs.Doing.{Doing, Resting, Working, Operating, AllDoing, Live, IsThen, doing_then}
 use Rattle.session_laws.specs.Needs.{Needs}
 use Rattle.session_laws.proofs.SessionLaws.{then_is}
-use Rattle.operation_laws.specs.Entries.{EndsNone, IsOneOperation}
 use Rattle.operation_laws.specs.LiveNumbers.{AreTheLive}
+use Rattle.operation_laws.specs.Opening.{Opens}
 use Rattle.operation_laws.specs.Planned.{IsOpFor}
 use Rattle.operation_laws.proofs.Beginnings.{begins_alone}
 use Rattle.operation_laws.proofs.CoreCourses.{abandoned_calm, core_course, alone_course}
-use Rattle.operation_laws.proofs.Done.{log_faults_alone}
 use Rattle.operation_laws.proofs.Left.{left_undo, left_begin}
 use Rattle.operation_laws.proofs.Pending.{begun_numbered}
 use Rattle.operation_laws.proofs.Reaches.{asks_none, reach_is}
-use Rattle.operation_laws.proofs.ToldLaws.{begin_leads, log_fault_leads}
+use Rattle.operation_laws.proofs.ToldLaws.{begin_leads}
 use Rattle.manager_core.specs.Coming.{IsFirstInWay}
 use Rattle.manager_core.specs.Steady.{IsPlainOp, IsSteady, AreSteady, Becomes, Ends, seen_with}
+use Rattle.manager_core.proofs.LogRowFaults.{RowTried, log_row_alone, log_row_leads}
 use Rattle.manager_core.proofs.MovingLaws.{ends_after}
+use Rattle.manager_core.proofs.NobodyEnds.{long_is_one}
 use Rattle.manager_core.proofs.OperationCalls.{plain_next, left_next}
 use Rattle.manager_core.proofs.QuietAnswers.{ends_where}
 use Rattle.manager_core.proofs.QuietEnds.{FitsAt, quiet_ends, full_fits, fault_fits, memory_fits}
 use Rattle.manager_core.proofs.ExactTaking.{pending_first, pending_same}
 use Rattle.manager_core.proofs.PendingEnds as pending
+use Rattle.manager_core.proofs.PlannedTokens.{opens_planned}
 use Rattle.manager_core.proofs.TakingUp as taking
 use Rattle.manager_core.proofs.SettledStays.{means_begun, means_undone, settled_begun, settled_undone}
 use Rattle.manager_core.proofs.Steadiness.{becomes_by, copy_undone, copy_begun, core_here, keeps_meaning, keeps_settled, steady_of, passes_on, passes_with}
@@ -62,16 +64,6 @@ none_some a is = cc
 some_is : (a b : Live) → Some a ≡ Some b → a ≡ b
 some_is a b is = cc
 
-adds_none : (c : Command) → is_long_planned c ≡ true → EndsNone c
-adds_none (command.Add name low high location) is = tt
-adds_none (command.Addpoint name key location) is = tt
-adds_none other is = absurd cc
-
-pub adds_one : (c : Command) → is_long_planned c ≡ true → IsOneOperation c
-adds_one (command.Add name low high location) is = tt
-adds_one (command.Addpoint name key location) is = tt
-adds_one other is = absurd cc
-
 -- what is planned is the command's
 is_op_for : (c : Command) (op : Op) (image : Image) → asked_number c ≡ None → PlansLong c op image → IsOpFor c image op
 is_op_for c op image none plans = record {
@@ -81,8 +73,8 @@ is_op_for c op image none plans = record {
 }
 
 -- and reaches what the command reaches
-pub reach_planned : (c : Command) → is_long_planned c ≡ true → (op : Op) (image : Image) → PlansLong c op image → reach_of op ≡ reach_of_command (meaning image) c
-reach_planned c long op image plans = sym (reach_is image nobody c (adds_one c long) op (is_op_for c op image (asks_none c (adds_one c long)) plans))
+pub reach_planned : (c : Command) → is_long c ≡ true → (op : Op) (image : Image) → PlansLong c op image → reach_of op ≡ reach_of_command (meaning image) c
+reach_planned c long op image plans = sym (reach_is image nobody c (long_is_one c long) op (is_op_for c op image (asks_none c (long_is_one c long)) plans))
 
 -- ---- abandoned operations in the way are undone
 
@@ -103,9 +95,9 @@ module _ (live : List ℕ) (before : AllDoing) (are : AreTheLive live before) (o
 
 -- ---- a session that rests takes up the command
 
-module _ (session : ℕ) (c : Command) (long : is_long_planned c ≡ true) (before : AllDoing) (left : Option Op) (rests : before session ≡ Resting left) (live : List ℕ) (are : AreTheLive live before) (op : Op) (old new : Outside) where
+module _ (session : ℕ) (c : Command) (long : is_long c ≡ true) (before : AllDoing) (left : Option Op) (rests : before session ≡ Resting left) (live : List ℕ) (are : AreTheLive live before) (op : Op) (old new : Outside) where
   no_job : asked_number c ≡ None
-  no_job = asks_none c (adds_one c long)
+  no_job = asks_none c (long_is_one c long)
 
   abbrev working : AllDoing
   working = doing_then before session (Working c left)
@@ -144,9 +136,9 @@ module _ (session : ℕ) (c : Command) (long : is_long_planned c ≡ true) (befo
     course : (image : Image) → IsSteady before image → HasGone image passes.happened → IsCourse (BeginStep live op) image passes.happened
     course image s p = begun_course live op made true image passes.happened (has_begun image s p).tried
 
-    made_plain : (image : Image) → IsSteady before image → HasGone image passes.happened → IsPlainOp made
+    made_plain : (image : Image) → IsSteady before image → HasGone image passes.happened → IsPlainOp (record { command = c; op = made; stage = Logged })
     made_plain image s p = (
-      ap (λ (o : Op). o.extra) (has_begun image s p).tried.named ∙ (p.0.0 s.sound).no_job,
+      subst (Opens (given_token c)) (sym (has_begun image s p).tried.named) (opens_planned c op image (p.0.0 s.sound) (next_operation image)),
       begun_numbered live op made stage image passes.happened p.1 s.sound (p.0.0 s.sound).lawful p.0.1,
     )
 
@@ -154,7 +146,7 @@ module _ (session : ℕ) (c : Command) (long : is_long_planned c ≡ true) (befo
     steady_begun = passes_on HasGone old new begun (IsSteady before) (IsSteady next)
         (λ image s p. steady_of next image [] nobody (after_all image passes.happened)
         (begins_alone image [] nobody image working (taken_alone image [] image (core_here before image s)) session c left takes.here live live_works op (is_op_for c op image no_job (p.0.0 s.sound)) p.0.1 made stage passes.happened p.1 next (then_working (Operating c made Logged) next then))
-        (plain_next before session (Operating c made Logged) next then s.plain (λ m h. subst (λ (x : Live). IsPlainOp x.op) (some_is (record { command = c; op = made; stage = Logged }) m h) (made_plain image s p)))
+        (plain_next before session (Operating c made Logged) next then s.plain (λ m h. subst IsPlainOp (some_is (record { command = c; op = made; stage = Logged }) m h) (made_plain image s p)))
         (left_next before session (Operating c made Logged) next then (after_all image passes.happened) (left_begin before image s.sound s.left live op passes.happened (course image s p)) (λ o h. absurd (none_some o h))))
 
     pub going_becomes : Becomes old new before next
@@ -188,17 +180,14 @@ module _ (session : ℕ) (c : Command) (long : is_long_planned c ≡ true) (befo
     tried_ends = record {
       steady = λ steady copy. passes_on Tried old new tried (IsSteady before) (IsSteady before)
           (λ image s p. steady_of before image (record { entry = entry; before = meaning image } ∷ []) nobody (after_all image passes.happened)
-          (log_faults_alone image [] nobody image working (taken_alone image [] image (core_here before image s)) entry left takes.here (adds_none c long) live live_works op (is_op_for c op image no_job (p.0.0 s.sound)) p.0.1 passes.happened p.1 refl before (then_working (Resting left) before stays))
+          (log_row_alone working entry left takes.here (long_is_one c long) live live_works op passes.happened refl before (then_working (Resting left) before stays) image [] image (taken_alone image [] image (core_here before image s))
+          (is_op_for c op image no_job (p.0.0 s.sound)) p.0.1 p.1)
           s.plain (left_begin before image s.sound s.left live op passes.happened (tried_course image s p))) steady;
       settled = λ steady copy. keeps_settled Tried old new tried before (λ image s p. settled_begun live op image s.sound passes.happened (tried_course image s p)) steady;
       copy = λ ok. absurd (ok refl);
-      leads = λ steady copy mode history e says now. log_fault_leads mode old new (seen_with history before) e now left before (subst (λ t. IsThen before t (Resting left) before) (sym says.of_session) stays)
-          (ap asked_number says.command ∙ no_job) (ap before says.of_session ∙ rests) live are op (subst EndsNone (sym says.command) (adds_none c long)) says.answered
-          (passes_weaker Tried (λ image hs. (Sound image → IsOpFor e.command image op × (next_operation image < 2 ^ 63)) × Begins live op (Err (begin.Tried e.operation)) image hs) old new
-          (λ image hs p. (
-            λ sound. (subst (λ x. IsOpFor x image op) (sym says.command) (is_op_for c op image no_job (p.0.0 sound)), p.0.1),
-            subst (λ n. Begins live op (Err (begin.Tried n)) image hs) (sym says.operation) p.1,
-          )) tried);
+      leads = λ steady copy mode history e says now. log_row_leads session c no_job (long_is_one c long) before left rests live are op number old new
+          (passes_weaker Tried (RowTried session c no_job (long_is_one c long) before left rests live are op number old new) old new (λ image hs p. (λ sound. (is_op_for c op image no_job (p.0.0 sound), p.0.1), p.1)) tried)
+          e says mode history now;
     }
 
   -- ---- nothing of it is tried

@@ -10,7 +10,8 @@ use Rattle.cell_world.specs.declared.changes.Edit.{Edit}
 use Rattle.cell_world.specs.declared.operations.Reach.{Reach}
 use Rattle.cell_world.proofs.ContentsLaws.{contents_all, contents_both, contents_weaker}
 use Rattle.global_tables.specs.Known.{Known, known_of}
-use Rattle.map_ops.specs.Planning.{NoneInWay, PlansChange, is_planned}
+use Rattle.map_ops.specs.Planning.{NoneInWay, PlansChange}
+use Rattle.plain_model.specs.ShortCommands.{is_short, short_commit}
 use Rattle.map_ops.proofs.PlannedLaws.{never_both, short_is_asked}
 use Rattle.op_steps.proofs.Rises.{rose_after}
 use Rattle.operation_laws.specs.LiveNumbers.{AreTheLive, HasLive}
@@ -18,7 +19,6 @@ use Rattle.plain_model.specs.declared.commands.Command.{Command}
 use Rattle.plain_model.specs.declared.replies.Reply.{Reply}
 use Rattle.plain_model.specs.declared.replies.Reply.TheVariants as reply
 use Rattle.plain_model.specs.OnTrail.{reach_of_command}
-use Rattle.plain_model.specs.ShortCommands.{short_commit}
 use Rattle.session_laws.specs.Doing.{AllDoing}
 use Rattle.manager_core.specs.Answering.{IsCopy}
 use Rattle.manager_core.specs.Asking.{AnswersNow, FindsWay, MakesChange, MayMake}
@@ -40,7 +40,7 @@ pending_is n m is = cc
 pub now_or : (c : Command) (known fresh : Known) (before : AllDoing) (old new : Outside) (r s t : Reply) → (t ≡ r) ⊎ (t ≡ s) → AnswersNow c r known fresh before old new → AnswersNow c s known fresh before old new → AnswersNow c t known fresh before old new
 now_or c known fresh before old new r s t which one two = ⊎_elim (λ this. subst (λ x. AnswersNow c x known fresh before old new) (sym this) one) (λ that. subst (λ x. AnswersNow c x known fresh before old new) (sym that) two) which
 
-module _ (c : Command) (planned : is_planned c ≡ true) (known : Known) (before : AllDoing) (reached : Reach) (change : List Edit) (old mid : Outside) (becomes : Becomes old mid before before) (tidied : AreSteady before old → IsTidied (ClearStep before reached) old.told mid.told) (later : IsLater old mid) where
+module _ (c : Command) (planned : is_short c ≡ true) (known : Known) (before : AllDoing) (reached : Reach) (change : List Edit) (old mid : Outside) (becomes : Becomes old mid before before) (tidied : AreSteady before old → IsTidied (ClearStep before reached) old.told mid.told) (later : IsLater old mid) where
   module _ (plans : IfContents old.told (λ image. Sound image → known ≡ known_of (global image) → PlansChange c reached change reply.Ok image)) where
     planned_here : AreSteady before old → IsCopy known old.told → IfContents old.told (PlansChange c reached change reply.Ok)
     planned_here steady copy = said_of old.told before known (PlansChange c reached change reply.Ok) steady copy plans

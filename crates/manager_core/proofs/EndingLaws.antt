@@ -33,7 +33,7 @@ is_session ds zero op is = absurd cc
 is_session ds (suc n) op is = ⊎_elim (λ below. (omega arith, omega (arith, below))) (λ past. let both : None ≡ Some op = sym (none_past ds n past) ∙ is in absurd cc) (cases_lt n (length ds))
 
 -- What is so of its sessions, settled one after the other, is so of the end of a core.
-pub finishes : (old new : Outside) (history : List Entry) (ds later : List Doing) (known : Known) (stop : Option StopCause) (ending : Tail) → Becomes old new (all_doing ds) (all_doing later) → Waits old new (all_doing ds) (all_doing later)
+pub finishes : (old new : Outside) (history : List Entry) (ds later : List Doing) (known : Option Known) (stop : Option StopCause) (ending : Tail) → Becomes old new (all_doing ds) (all_doing later) → Waits old new (all_doing ds) (all_doing later)
     → SameGoing (all_doing ds) (all_doing later) → (AreSteady (all_doing ds) old → IsTidied (SettleSteps (all_doing ds)) old.told new.told) → length later ≡ length ds
     → (ending ≡ tail.Settled → (session : ℕ) → 1 ≤ session → session ≤ length ds → left_of (all_doing later session) ≡ None)
     → (ending ≡ tail.Settled → AreSteady (all_doing ds) old → (session : ℕ) (op : Op) → 1 ≤ session → session ≤ length ds → left_of (all_doing ds session) ≡ Some op → IfContents new.told (IsSettledOp op))

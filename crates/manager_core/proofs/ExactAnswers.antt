@@ -4,7 +4,8 @@ use Rattle.cell_world.specs.Images.{Image}
 use Rattle.cell_world.specs.Plain.{PlainState, nobody, with_connections}
 use Rattle.cell_world.specs.Meaning.{meaning, next_operation}
 use Rattle.cell_world.specs.declared.operations.Reach.{Reach}
-use Rattle.map_ops.specs.Planning.{is_planned, is_long_planned}
+use Rattle.map_ops.specs.Planning.{is_long}
+use Rattle.plain_model.specs.ShortCommands.{is_short, is_short_answer, standing_with}
 use Rattle.map_ops.proofs.PlannedLaws.{never_both}
 use Rattle.plain_model.specs.declared.commands.Command.{Command}
 use Rattle.plain_model.specs.declared.replies.Reply.{Reply}
@@ -13,7 +14,6 @@ use Rattle.plain_model.specs.declared.replies.Refusal.{Refusal}
 use Rattle.plain_model.specs.declared.replies.Refusal.TheVariants as refused
 use Rattle.plain_model.specs.OnTrail.{reach_of_command}
 use Rattle.plain_model.specs.Refusing.{refusal}
-use Rattle.plain_model.specs.ShortCommands.{is_short_answer, standing_with}
 use Rattle.session_laws.specs.Doing.{AllDoing, live_of}
 use Rattle.manager_core.specs.Coming.{AsksExactly, IsAdmitted, IsFull, IsFirstInWay, IsInWay}
 
@@ -101,7 +101,7 @@ module _ (doing : AllDoing) (session : ℕ) (c : Command) (image : Image) where
   }
 
   -- it is done, and none is
-  pub exact_answer : (r : Reply) → is_short_answer r ≡ true → is_planned c ≡ true → refusal (standing_with image nobody) session c ≡ None → WayIsFree → AsksExactly doing session c (Some r) image
+  pub exact_answer : (r : Reply) → is_short_answer r ≡ true → is_short c ≡ true → refusal (standing_with image nobody) session c ≡ None → WayIsFree → AsksExactly doing session c (Some r) image
   exact_answer r answer planned accepted free = record {
     refused = λ y same. absurd (no_refusal r y answer same);
     refuses = λ y other. absurd (none_some y (sym accepted ∙ other));
@@ -113,7 +113,7 @@ module _ (doing : AllDoing) (session : ℕ) (c : Command) (image : Image) where
   }
 
   -- its operation has begun
-  pub exact_going : is_long_planned c ≡ true → IsAdmitted session c image → WayIsFree → AsksExactly doing session c None image
+  pub exact_going : is_long c ≡ true → IsAdmitted session c image → WayIsFree → AsksExactly doing session c None image
   exact_going long admitted free = record {
     refused = λ y same. absurd cc;
     refuses = λ y other. absurd (none_some y (sym admitted.accepted ∙ other));

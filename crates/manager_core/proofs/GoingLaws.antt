@@ -7,7 +7,7 @@ use Rattle.cell_world.specs.declared.operations.StageName.{StageName}
 use Rattle.cell_world.specs.declared.operations.StageName.TheVariants.{Committed}
 use Rattle.global_tables.specs.Known.{Known}
 use Rattle.global_tables.specs.declared.faults.StepFault.TheVariants as fault
-use Rattle.map_ops.specs.Planning.{is_long_planned}
+use Rattle.map_ops.specs.Planning.{is_long}
 use Rattle.plain_model.specs.declared.commands.Command.{Command}
 use Rattle.plain_model.specs.declared.replies.Reply.{Reply}
 use Rattle.plain_model.specs.declared.replies.Reply.TheVariants as reply
@@ -28,15 +28,15 @@ use Rattle.manager_core.proofs.MovingLaws.{memory_moves, then_then}
 -- ---- what the session does is proper
 
 -- some session may have it going
-pub on_forward : (c : Command) (op : Op) (name : StageName) (next : Stage) (old new : Outside) → is_long_planned c ≡ true → MovesOn op name (moved.On next) old new → IsForward (name_of next)
+pub on_forward : (c : Command) (op : Op) (name : StageName) (next : Stage) (old new : Outside) → is_long c ≡ true → MovesOn op name (moved.On next) old new → IsForward (name_of next)
 on_forward c op name next old new long moves = (moves 0 c (λ session. Operating c op name) long refl).0
 
-pub done_committed : (c : Command) (op : Op) (name : StageName) (next : Stage) (old new : Outside) → is_long_planned c ≡ true → MovesOn op name (moved.Done next) old new → name_of next ≡ Committed
+pub done_committed : (c : Command) (op : Op) (name : StageName) (next : Stage) (old new : Outside) → is_long c ≡ true → MovesOn op name (moved.Done next) old new → name_of next ≡ Committed
 done_committed c op name next old new long moves = (moves 0 c (λ session. Operating c op name) long refl).0
 
 -- ---- what becomes of it
 
-module _ (session : ℕ) (c : Command) (op : Op) (name : StageName) (long : is_long_planned c ≡ true) (old new : Outside) where
+module _ (session : ℕ) (c : Command) (op : Op) (name : StageName) (long : is_long c ≡ true) (old new : Outside) where
   -- it goes on
   pub goes_to : (next : Stage) (rests after : AllDoing) → IsOnward name (moved.On next) → MovesOn op name (moved.On next) old new → MovesOnce op name (moved.On next) old new
       → IsThen rests session (Operating c op (name_of next)) after → GoesFrom session c op name (Going op.number) rests after old new
@@ -73,7 +73,7 @@ module _ (session : ℕ) (c : Command) (op : Op) (name : StageName) (long : is_l
       ends_with answer reply.Memory short known before rests (tt, first, moves session c before long is known rests first, λ e. absurd cc) (λ steady. once session c before long is steady)
 
 -- before any transaction
-pub goes_nowhere : (session : ℕ) (c : Command) (op : Op) (name : StageName) → is_long_planned c ≡ true → IsForward name → (here : Outside) (answer : Answer) → answer.reply ≡ reply.Memory → (rests : AllDoing)
+pub goes_nowhere : (session : ℕ) (c : Command) (op : Op) (name : StageName) → is_long c ≡ true → IsForward name → (here : Outside) (answer : Answer) → answer.reply ≡ reply.Memory → (rests : AllDoing)
     → GoesFrom session c op name (Ended c answer op.number) rests rests here here
 goes_nowhere session c op name long forward here answer short rests =
     goes_short session c op name long here here answer short rests (memory_moves here here op name (Err fault.Memory) (nothing_tried op name here) forward tt) (λ s d before is at steady. refl)

@@ -12,12 +12,16 @@ pub mod EndingLaws
 pub mod ExactAnswers
 pub mod ExactTaking
 pub mod GoingLaws
+pub mod LiveFaults
+pub mod LogRowFaults
 pub mod LongAnswers
 pub mod MovingLaws
 pub mod MovingOnce
+pub mod NobodyEnds
 pub mod OpeningLaws
 pub mod OperationCalls
 pub mod PendingEnds
+pub mod PlannedTokens
 pub mod QuietAnswers
 pub mod QuietEnds
 pub mod SettleLaws
@@ -25,6 +29,7 @@ pub mod SettledStays
 pub mod ShortAnswers
 pub mod ShortEnds
 pub mod Steadiness
+pub mod TableCopies
 pub mod TakingLaws
 pub mod TakingUp
 pub mod TidyLaws

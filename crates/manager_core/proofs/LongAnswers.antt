@@ -10,20 +10,16 @@ use Rattle.cell_world.specs.declared.operations.Op.{Op}
 use Rattle.cell_world.specs.declared.operations.Reach.{Reach}
 use Rattle.cell_world.proofs.ContentsLaws.{contents_all, contents_both, contents_weaker}
 use Rattle.global_tables.specs.Known.{Known, known_of}
-use Rattle.map_ops.specs.Planning.{PlansLong, is_long_planned}
+use Rattle.map_ops.specs.Planning.{PlansLong, is_long}
 use Rattle.map_ops.proofs.PlannedLaws.{long_is_asked}
 use Rattle.op_steps.specs.declared.stages.Stage.{Stage}
 use Rattle.operation_laws.specs.Left.{left_of}
 use Rattle.operation_laws.specs.LiveNumbers.{AreTheLive, HasLive}
-use Rattle.operation_laws.specs.Planned.{IsOpFor}
-use Rattle.operation_laws.proofs.Reaches.{asks_none, reach_is}
 use Rattle.plain_model.specs.declared.commands.Command.{Command}
 use Rattle.plain_model.specs.declared.replies.Reply.{Reply}
 use Rattle.plain_model.specs.declared.replies.Reply.TheVariants as reply
 use Rattle.plain_model.specs.declared.replies.Refusal.TheVariants as refused
-use Rattle.plain_model.specs.JobSteps.{asked_number}
 use Rattle.plain_model.specs.OnTrail.{reach_of_command}
-use Rattle.session_laws.specs.Core.{IsTriedFor}
 use Rattle.session_laws.specs.Doing.{AllDoing, Resting, Operating, IsThen}
 use Rattle.manager_core.specs.declared.answers.Answer.{Answer}
 use Rattle.manager_core.specs.declared.beginning.Taken.{Taken}
@@ -35,7 +31,7 @@ use Rattle.manager_core.specs.Beginnings.{IsFullAt, TakesExactly, TakesUp, Waits
 use Rattle.manager_core.specs.Coming.{AsksExactly, ClearStep, ComesOfAsking, HappensAsking, IsAdmitted, IsFirstInWay, IsInWay, SettleStep}
 use Rattle.manager_core.specs.Doings.{doing_of}
 use Rattle.manager_core.specs.Steady.{IsSteady, AreSteady, Ends}
-use Rattle.manager_core.proofs.BeginningLaws.{adds_one}
+use Rattle.manager_core.proofs.BeginningLaws.{reach_planned}
 use Rattle.manager_core.proofs.ExactAnswers.{exact_fault, exact_full, exact_going, exact_memory, exact_pending}
 use Rattle.manager_core.proofs.QuietAnswers.{ends_where, memory_quietly, said_of}
 use Rattle.manager_core.proofs.TidyLaws.{tidied_none}
@@ -46,17 +42,7 @@ none_some a is = cc
 pending_is : (n m : ℕ) → reply.Pending n ≡ reply.Pending m → n ≡ m
 pending_is n m is = cc
 
--- a long command reaches what its planned operation reaches
-long_reaches : (c : Command) (long : is_long_planned c ≡ true) (op : Op) (image : Image) → PlansLong c op image → reach_of op ≡ reach_of_command (meaning image) c
-long_reaches c long op image plans = sym (reach_is image nobody c (adds_one c long) op own)
-  where
-    none : asked_number c ≡ None
-    none = asks_none c (adds_one c long)
-
-    own : IsOpFor c image op
-    own = record { lawful = plans.lawful; tried = subst (λ number. IsTriedFor number image op) (sym none) tt; exchange = λ connections asks. plans.own connections }
-
-module _ (session : ℕ) (c : Command) (long : is_long_planned c ≡ true) (known : Known) (before : AllDoing) (rests : before session ≡ Resting None) (live : List ℕ) (are : AreTheLive live before) (op : Op) (old new : Outside)
+module _ (session : ℕ) (c : Command) (long : is_long c ≡ true) (known : Known) (before : AllDoing) (rests : before session ≡ Resting None) (live : List ℕ) (are : AreTheLive live before) (op : Op) (old new : Outside)
     (plans : IfContents old.told (λ image. Sound image → known ≡ known_of (global image) → PlansLong c op image)) where
   -- what the plan says of sound stores
   plans_sound : IsCopy known old.told → IfContents old.told (λ image. Sound image → PlansLong c op image)
@@ -99,7 +85,7 @@ module _ (session : ℕ) (c : Command) (long : is_long_planned c ≡ true) (know
     exactly steady copy = t.exact c before are steady (plans_sound copy)
 
     reaches : AreSteady before old → IsCopy known old.told → IfContents old.told (λ image. reach_of op ≡ reach_of_command (meaning image) c)
-    reaches steady copy = contents_weaker old.told Planned (λ image. reach_of op ≡ reach_of_command (meaning image) c) (λ image p. long_reaches c long op image p.1) (planned_here steady copy)
+    reaches steady copy = contents_weaker old.told Planned (λ image. reach_of op ≡ reach_of_command (meaning image) c) (λ image p. reach_planned c long op image p.1) (planned_here steady copy)
 
     -- what happened
     happens_so : AreSteady before old → IsCopy known old.told → HappensAsking before session c (answer_of result) (number_in result) old.told new.told
@@ -129,7 +115,7 @@ module _ (session : ℕ) (c : Command) (long : is_long_planned c ≡ true) (know
   admitted image p below = record { accepted = p.1.accepts session nobody; number = λ is last. omega (arith, below, last) }
 
   way_as : (P : Reach → Type 0) (image : Image) → Planned image → P (reach_of op) → P (reach_of_command (meaning image) c)
-  way_as P image p way = subst P (long_reaches c long op image p.1) way
+  way_as P image p way = subst P (reach_planned c long op image p.1) way
 
   -- its session has it live
   pub going_comes : (made : Op) (stage : Stage) (t : TakesUp live op (taken.Going made stage) old new) (next : AllDoing) → IsThen before session (doing_of (seat.Operating c made stage)) next → ComesOfAsking session c (Going made.number) known known before next old new

@@ -1,5 +1,5 @@
 -- A command that is going moves on: one step after another.
-use Rattle.std.proofs.Common.{◌≡◌, ℕ, true, refl, sym, ap, ◌∙◌, subst, Some, None}
+use Rattle.std.proofs.Common.{◌≡◌, ℕ, refl, sym, ap, ◌∙◌, subst, Some, None}
 use Rattle.std.specs.Prelude.{Result, Err, IsOk}
 use Rattle.cell_world.specs.Outside.{Outside}
 use Rattle.cell_world.specs.declared.operations.Op.{Op}
@@ -8,9 +8,7 @@ use Rattle.cell_world.specs.declared.operations.StageName.TheVariants.{TargetDon
 use Rattle.global_tables.specs.Known.{Known}
 use Rattle.global_tables.specs.declared.faults.StepFault.{StepFault}
 use Rattle.global_tables.specs.declared.faults.StepFault.TheVariants as fault
-use Rattle.map_ops.specs.Planning.{is_long_planned}
 use Rattle.plain_model.specs.declared.commands.Command.{Command}
-use Rattle.plain_model.specs.declared.commands.Command.TheVariants as command
 use Rattle.plain_model.specs.declared.replies.Reply.{Reply}
 use Rattle.plain_model.specs.Running.{text_of}
 use Rattle.op_steps.specs.Advancing.{Advances}
@@ -19,20 +17,15 @@ use Rattle.op_steps.specs.Stages.{name_of, next_stage}
 use Rattle.op_steps.specs.declared.stages.Stage.{Stage}
 use Rattle.session_laws.specs.Doing.{Doing, Resting, Operating, AllDoing, Live, live_of, IsThen, doing_then}
 use Rattle.session_laws.proofs.SessionLaws.{then_is}
-use Rattle.operation_laws.specs.Entries.{IsAdding}
 use Rattle.operation_laws.specs.Forward.{IsForward, IsBeforeTarget}
 use Rattle.operation_laws.specs.Leading.{with_entry}
 use Rattle.manager_core.specs.Moving.{Moves, MovesOn, stopped_by}
 use Rattle.manager_core.specs.Steady.{Becomes, Ends, seen_with}
 use Rattle.manager_core.specs.declared.moving.Moved.{Moved}
 use Rattle.manager_core.specs.declared.moving.Moved.TheVariants as moved
+use Rattle.manager_core.proofs.NobodyEnds.{long_is_one}
 use Rattle.manager_core.proofs.OperationCalls.{advance_becomes, done_ends, fault_ends, memory_ends}
 use Rattle.manager_core.proofs.Steadiness.{leads_then}
-
-pub adds : (c : Command) → is_long_planned c ≡ true → IsAdding c
-adds (command.Add name low high location) is = tt
-adds (command.Addpoint name key location) is = tt
-adds other is = absurd cc
 
 -- a session that did another thing, and then this, did this
 pub then_over : (before : AllDoing) (session : ℕ) (d e : Doing) (mid next : AllDoing) → IsThen before session d mid → IsThen before session e next → IsThen mid session e next
@@ -81,14 +74,14 @@ module _ (old new : Outside) (op : Op) (name : StageName) (result : Result Stage
   pub done_moves : IsForward name → name ≡ TargetDone → IsOk result → (stage : Stage) → name_of stage ≡ Committed → MovesOn op name (moved.Done stage) old new
   done_moves forward target ok stage committed session c before long is = (
     committed,
-    λ known next then. done_ends old new before session (live c) (ap live_of is) result passes (adds c long) forward (Some op) next then known target ok same_op,
+    λ known next then. done_ends old new before session (live c) (ap live_of is) result passes (long_is_one c long) forward (Some op) next then known target ok same_op,
   )
 
   pub store_moves : IsForward name → MovesOn op name moved.Store old new
-  store_moves forward session c before long is = λ known next then. fault_ends old new before session (live c) (ap live_of is) result passes (adds c long) forward None next then known refl
+  store_moves forward session c before long is = λ known next then. fault_ends old new before session (live c) (ap live_of is) result passes (long_is_one c long) forward None next then known refl
 
   pub memory_moves : IsForward name → FailsByMemory result → MovesOn op name moved.Memory old new
-  memory_moves forward fails session c before long is = λ known next then. memory_ends old new before session (live c) (ap live_of is) result passes (adds c long) forward None next then known refl fails
+  memory_moves forward fails session c before long is = λ known next then. memory_ends old new before session (live c) (ap live_of is) result passes (long_is_one c long) forward None next then known refl fails
 
   -- its local step
   module _ (forward : IsForward name) (early : IsBeforeTarget name) (ok : IsOk result) where

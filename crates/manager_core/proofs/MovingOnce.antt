@@ -1,40 +1,28 @@
 -- A command that is going moves on by just one transaction.
-use Rattle.std.proofs.Common.{◌≡◌, ◌≤◌, ℕ, true, false, inl, inr, refl, sym, ap, ◌∙◌, subst, Some, None, Option, List, [], ◌∷◌, ◌++◌, length, true≢false}
-use Rattle.std.specs.Prelude.{Result, Ok, Err, IsOk, option_to_list, option_map}
-use Rattle.cell_world.specs.Texts.{Text}
+use Rattle.std.proofs.Common.{◌≡◌, ◌≤◌, ℕ, true, false, inl, inr, refl, sym, ap, ◌∙◌, subst, List, [], ◌∷◌, length}
+use Rattle.std.specs.Prelude.{Result, Ok, Err, IsOk}
 use Rattle.cell_world.specs.Images.{Image, Place, Global, Happening, Committed, image_at, end_of_trail}
-use Rattle.cell_world.specs.Meaning.{meaning}
 use Rattle.cell_world.specs.Outside.{Outside, Told, TellsNothing, TellsContents, TellsTrail, IfContents, told_after}
-use Rattle.cell_world.specs.Plain.{PlainState, nobody, with_connections}
+use Rattle.cell_world.specs.Plain.{nobody}
 use Rattle.cell_world.specs.Sound.{Sound}
-use Rattle.cell_world.specs.Spelled.{listed}
 use Rattle.cell_world.specs.declared.changes.Edit.{Edit}
 use Rattle.cell_world.specs.declared.operations.Op.{Op}
-use Rattle.cell_world.specs.declared.operations.Piece.{Piece}
 use Rattle.cell_world.specs.declared.operations.StageName.{StageName}
 use Rattle.cell_world.specs.declared.operations.StageName.TheVariants as stage
-use Rattle.cell_world.specs.declared.spans.Span.{Span}
-use Rattle.cell_world.specs.declared.spans.Span.TheVariants.{Point}
 use Rattle.cell_world.proofs.ContentsLaws.{contents_weaker, contents_both}
 use Rattle.global_tables.specs.declared.faults.StepFault.{StepFault}
 use Rattle.global_tables.specs.declared.faults.StepFault.TheVariants as fault
 use Rattle.image_laws.specs.CommitEdits.{commit_edits}
 use Rattle.plain_model.specs.declared.commands.Command.{Command}
-use Rattle.plain_model.specs.declared.commands.Command.TheVariants as command
-use Rattle.plain_model.specs.JobSteps.{asked_number}
-use Rattle.plain_model.specs.Legal.{IsOwnOf}
-use Rattle.plain_model.specs.Refusing.{high_in, key_in, range_between}
-use Rattle.plain_model.specs.Steps.{added}
 use Rattle.op_steps.specs.Advancing.{AdvanceStep, Advances, AtStage, CommitsOp, HasAdvanced, StepsAt, most_tries}
 use Rattle.op_steps.specs.Passing.{FailsByMemory, IsCourse, Passes, told_after_all}
-use Rattle.op_steps.specs.PassingOver.{MakesOne, has_step, is_beside}
+use Rattle.op_steps.specs.PassingOver.{MakesOne, has_step}
 use Rattle.op_steps.specs.Stages.{next_stage}
 use Rattle.op_steps.specs.declared.stages.Stage.{Stage}
 use Rattle.op_steps.proofs.AdvanceMeaning.{course_from}
-use Rattle.op_steps.proofs.PassedStages.{commit_makes, passed_over, source_makes}
+use Rattle.op_steps.proofs.PassedStages.{commit_makes, logged_makes, passed_over, source_makes}
 use Rattle.session_laws.specs.Doing.{AllDoing, Live, Operating, doing_then, live_of}
 use Rattle.session_laws.proofs.SessionLaws.{then_is}
-use Rattle.operation_laws.specs.Entries.{IsAdding}
 use Rattle.operation_laws.specs.Forward.{IsBeforeTarget, IsForward}
 use Rattle.operation_laws.proofs.OwnSteps.{IsOne, Nothing, Tried, is_one, stage_alone}
 use Rattle.manager_core.specs.Coming.{MakesStep, TriesOnce}
@@ -42,7 +30,7 @@ use Rattle.manager_core.specs.Moving.{MovesOn, MovesOnce, stopped_by}
 use Rattle.manager_core.specs.Steady.{AreSteady, IsSteady}
 use Rattle.manager_core.specs.declared.moving.Moved.{Moved}
 use Rattle.manager_core.specs.declared.moving.Moved.TheVariants as moved
-use Rattle.manager_core.proofs.MovingLaws.{adds, then_moves}
+use Rattle.manager_core.proofs.MovingLaws.{then_moves}
 use Rattle.manager_core.proofs.OperationCalls.{advance_becomes}
 use Rattle.manager_core.proofs.Steadiness.{core_here}
 
@@ -86,29 +74,16 @@ none_told TellsNothing new hs told none = told ∙ nothing_told hs
 none_told (TellsContents image) new hs told none = told ∙ ap (told_after_all (TellsContents image)) none
 none_told (TellsTrail trail) new hs told none = told ∙ ap (told_after_all (TellsTrail trail)) none
 
--- ---- a command that adds a mapping replaces none
+-- ---- a stage before the commit from which something leads on
 
-none_added : (name location : Text) (span : Option Span) → (added name location span).0 ≡ []
-none_added name location None = refl
-none_added name location (Some span) = refl
-
-no_olds : (c : Command) → IsAdding c → (A : PlainState) (image : Image) (op : Op) → (asked_number c ≡ None → IsOwnOf A c None image op) → listed op.olds ≡ []
-no_olds (command.Add name low high location) adding A image op own = (own refl).0 ∙ none_added name location (range_between (key_in A name low) (high_in A name high))
-no_olds (command.Addpoint name key location) adding A image op own = (own refl).0 ∙ none_added name location (option_map Point (key_in A name key))
-no_olds other adding A image op own = absurd adding
-
-none_first : (one two : Option Piece) → option_to_list one ++ option_to_list two ≡ [] → one ≡ None
-none_first None two none = refl
-none_first (Some piece) two none = absurd cc
-
--- so that its step makes new rows
-step_makes : (op : Op) (image : Image) → Sound image → op.olds.one ≡ None → (name : StageName) → IsBeforeTarget name → has_step op name ≡ true → AtStage op name image → (ok memory : Type 0) → ok
+-- just one local step is made: it marks the old mappings, or it makes the new rows at another site
+step_makes : (op : Op) (image : Image) → Sound image → (name : StageName) → IsBeforeTarget name → has_step op name ≡ true → AtStage op name image → (ok memory : Type 0) → ok
     → (hs : List Happening) → Advances op name ok memory image hs → MakesOne (StepsAt op) image hs
-step_makes op image sound none stage.Logged early step at ok memory done hs advances = absurd (true≢false (sym step ∙ ap (λ old. is_beside old None) none))
-step_makes op image sound none stage.SourceDone early step at ok memory done hs advances = source_makes op image sound at step ok memory done hs advances
-step_makes op image sound none stage.TargetDone early step at ok memory done hs advances = absurd early
-step_makes op image sound none stage.Committed early step at ok memory done hs advances = absurd early
-step_makes op image sound none stage.Settled early step at ok memory done hs advances = absurd early
+step_makes op image sound stage.Logged early step at ok memory done hs advances = logged_makes op image sound at step ok memory done hs advances
+step_makes op image sound stage.SourceDone early step at ok memory done hs advances = source_makes op image sound at step ok memory done hs advances
+step_makes op image sound stage.TargetDone early step at ok memory done hs advances = absurd early
+step_makes op image sound stage.Committed early step at ok memory done hs advances = absurd early
+step_makes op image sound stage.Settled early step at ok memory done hs advances = absurd early
 
 -- ---- a live operation goes on
 
@@ -149,11 +124,9 @@ module _ (old new : Outside) (op : Op) (name : StageName) (result : Result Stage
     each : (Q : Image → Type 0) → ((image : Image) → IsSteady before image → AtStage op name image → P image → Q image) → IfContents old.told Q
     each Q so = contents_weaker old.told (λ image. IsSteady before image × P image) Q (λ image both. so image both.0 (at_stage image both.0) both.1) (contents_both old.told (IsSteady before) P steady passes.each)
 
-    step_once : IsAdding c → IsBeforeTarget name → has_step op name ≡ true → IsOk result → MakesStep op old.told new.told
-    step_once adding early step ok = makes_step op old.told new.told passes.happened passes.told (each (λ image. MakesOne (StepsAt op) image passes.happened)
-        (λ image s at p. step_makes op image s.sound
-        (none_first op.olds.one op.olds.two (no_olds c adding (with_connections (meaning image) nobody) image op ((s.stand session live (ap live_of is)).exchange nobody)))
-        name early step at (IsOk result) (FailsByMemory result) ok passes.happened p))
+    step_once : IsBeforeTarget name → has_step op name ≡ true → IsOk result → MakesStep op old.told new.told
+    step_once early step ok = makes_step op old.told new.told passes.happened passes.told (each (λ image. MakesOne (StepsAt op) image passes.happened)
+        (λ image s at p. step_makes op image s.sound name early step at (IsOk result) (FailsByMemory result) ok passes.happened p))
 
     commit_once : name ≡ stage.TargetDone → IsOk result → new.told ≡ told_after old.told (Committed Global (commit_edits op) true)
     commit_once target ok = makes_commit op old.told new.told passes.happened passes.told (each (λ image. MakesOne (CommitsOp op) image passes.happened)
@@ -169,7 +142,7 @@ module _ (old new : Outside) (op : Op) (name : StageName) (result : Result Stage
         (λ image s at p. none_for_memory op (IsOk result) (FailsByMemory result) fails image passes.happened name forward (p s.sound at)))
 
   pub steps_once : IsBeforeTarget name → has_step op name ≡ true → IsOk result → (next : Stage) → MovesOnce op name (moved.On next) old new
-  steps_once early step ok next session c before long is steady = step_once (early_forward name early) session c before is steady (adds c long) early step ok
+  steps_once early step ok next session c before long is steady = step_once (early_forward name early) session c before is steady early step ok
 
   pub commits_once : IsForward name → name ≡ stage.TargetDone → IsOk result → (next : Stage) → MovesOnce op name (moved.Done next) old new
   commits_once forward target ok next session c before long is steady = commit_once forward session c before is steady target ok

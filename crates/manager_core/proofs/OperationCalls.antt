@@ -11,8 +11,6 @@ use Rattle.cell_world.specs.declared.operations.StageName.TheVariants.{TargetDon
 use Rattle.cell_world.proofs.ContentsLaws.{contents_both}
 use Rattle.global_tables.specs.Known.{Known, known_of}
 use Rattle.global_tables.specs.declared.faults.StepFault.{StepFault}
-use Rattle.plain_model.specs.declared.commands.Command.{Command}
-use Rattle.plain_model.specs.declared.commands.Command.TheVariants as command
 use Rattle.plain_model.specs.declared.history.Entry.{Entry}
 use Rattle.plain_model.specs.declared.replies.Reply.{Reply}
 use Rattle.plain_model.specs.declared.replies.Reply.TheVariants as reply
@@ -28,21 +26,21 @@ use Rattle.session_laws.specs.Core.{CoreAlone, Stands}
 use Rattle.session_laws.specs.Doing.{Doing, Resting, Operating, AllDoing, Live, live_of, IsThen}
 use Rattle.session_laws.specs.Needs.{Needs}
 use Rattle.session_laws.proofs.SessionLaws.{this_or_other}
-use Rattle.operation_laws.specs.Entries.{EndsNone, IsOneOperation, Names, FollowsAtCommit, IsAdding}
+use Rattle.operation_laws.specs.Entries.{IsOneOperation, Names, FollowsAtCommit}
 use Rattle.operation_laws.specs.Forward.{IsForward, IsBeforeTarget}
 use Rattle.operation_laws.specs.Leading.{Leads, with_entry}
 use Rattle.operation_laws.specs.Left.{AreLeft, left_of, without_left}
-use Rattle.operation_laws.proofs.AddAtCommit.{adding_at_commit}
-use Rattle.operation_laws.proofs.Done.{done_alone, faults_alone, memory_alone}
+use Rattle.operation_laws.proofs.Done.{done_alone, memory_alone}
 use Rattle.operation_laws.proofs.Left.{left_advance, settled_clean}
 use Rattle.operation_laws.proofs.OwnSteps.{advances_on_trail, advances_alone, stage_alone, step_leaves}
 use Rattle.operation_laws.proofs.Settled.{settled_on_trail, settled_alone}
-use Rattle.operation_laws.proofs.ToldLaws.{done_leads, fault_leads, memory_leads}
+use Rattle.operation_laws.proofs.ToldLaws.{done_leads, memory_leads}
 use Rattle.manager_core.specs.Coming.{IsTidied, SettleStep}
 use Rattle.manager_core.specs.Cores.{Waits}
 use Rattle.manager_core.specs.Steady.{IsPlainOp, IsSteady, AreSteady, Becomes, Ends, IsSettledOp, Says, seen_with}
+use Rattle.manager_core.proofs.LiveFaults.{fault_named_alone, follows_at_commit, named_leads}
 use Rattle.manager_core.proofs.SettledStays.{StaysSettled, means_settled, settled_advanced, settled_settled}
-use Rattle.manager_core.proofs.Steadiness.{becomes_by, copy_advanced, copy_settled, core_here, keeps_settled, steady_of, passes_on}
+use Rattle.manager_core.proofs.Steadiness.{becomes_by, copy_advanced, copy_settled, core_here, keeps_settled, passes_on, passes_with, steady_of}
 use Rattle.manager_core.proofs.TidyLaws.{settle_leaves_each, settle_step, tidied_by, tidied_weaker}
 use Rattle.manager_core.proofs.Waiting.{waits_by}
 
@@ -56,7 +54,7 @@ module _ (before : AllDoing) (session : ℕ) (d : Doing) (next : AllDoing) (then
       (λ other. inr (sym (ap live_of (then.others t other)) ∙ is))
       (this_or_other before session d next then t)
 
-  pub plain_next : ((t : ℕ) (l : Live) → live_of (before t) ≡ Some l → IsPlainOp l.op) → ((l : Live) → live_of d ≡ Some l → IsPlainOp l.op) → (t : ℕ) (l : Live) → live_of (next t) ≡ Some l → IsPlainOp l.op
+  pub plain_next : ((t : ℕ) (l : Live) → live_of (before t) ≡ Some l → IsPlainOp l) → ((l : Live) → live_of d ≡ Some l → IsPlainOp l) → (t : ℕ) (l : Live) → live_of (next t) ≡ Some l → IsPlainOp l
   plain_next none own t l is = ⊎_elim (own l) (none t l) (live_next t l is)
 
   pub left_next : (image : Image) → AreLeft before image → ((op : Op) → left_of d ≡ Some op → AtStage op Committed image) → AreLeft next image
@@ -115,7 +113,7 @@ module _ (old new : Outside) (before : AllDoing) (session : ℕ) (l : Live) (is 
   stage_here forward image s = stage_alone image [] nobody image before (core_here before image s) session l is forward
 
   copy_here : IsForward l.stage → (known : Known) (image : Image) → IsSteady before image → P image passes.happened → known ≡ known_of (global image) → known ≡ known_of (global (after_all image passes.happened))
-  copy_here forward known image s p copy = copy_advanced known image copy passes.happened l.op ((s.plain session l is).0) (course_from l.op l.stage image passes.happened (p s.sound (stage_here forward image s)).course)
+  copy_here forward known image s p copy = copy_advanced known image copy passes.happened l.op (s.plain session l is).0.no_job (course_from l.op l.stage image passes.happened (p s.sound (stage_here forward image s)).course)
 
   left_here : IsForward l.stage → (image : Image) → IsSteady before image → P image passes.happened → AreLeft before (after_all image passes.happened)
   left_here forward image s p = left_advance before image s.sound s.left l.op passes.happened (course_from l.op l.stage image passes.happened (p s.sound (stage_here forward image s)).course)
@@ -128,7 +126,7 @@ module _ (old new : Outside) (before : AllDoing) (session : ℕ) (l : Live) (is 
       (λ t0 start mode past s p core. advances_on_trail t0 start mode past nobody [] before core session l is early result ok passes.happened p next then)
       (λ first past image s p core. advances_alone first past nobody image before core session l is early result ok passes.happened p next then)
       (λ image s p. (
-        plain_next before session (Operating l.command l.op (next_stage l.stage)) next then s.plain (λ m h. subst (λ (x : Live). IsPlainOp x.op) (some_is (record { command = l.command; op = l.op; stage = next_stage l.stage }) m h) (s.plain session l is)),
+        plain_next before session (Operating l.command l.op (next_stage l.stage)) next then s.plain (λ m h. subst IsPlainOp (some_is (record { command = l.command; op = l.op; stage = next_stage l.stage }) m h) (s.plain session l is)),
         left_next before session (Operating l.command l.op (next_stage l.stage)) next then (after_all image passes.happened) (left_here forward image s p) (λ op h. absurd (none_some op h)),
       ))
       (λ image s p. (step_leaves image s.sound l.op l.stage early (stage_here forward image s) result passes.happened p, settled_here forward image s p))
@@ -136,30 +134,16 @@ module _ (old new : Outside) (before : AllDoing) (session : ℕ) (l : Live) (is 
 
   -- ---- it ends
 
-  adds_one : (c : Command) → IsAdding c → EndsNone c
-  adds_one (command.Add name low high location) adding = tt
-  adds_one (command.Addpoint name key location) adding = tt
-  adds_one other adding = absurd adding
-
-  one_of : (c : Command) → EndsNone c → IsOneOperation c
-  one_of (command.Offline name key token) ends = tt
-  one_of (command.Add name low high location) ends = tt
-  one_of (command.Addpoint name key location) ends = tt
-  one_of (command.Delete name key token) ends = tt
-  one_of (command.Online name key token) ends = tt
-  one_of (command.Move name key location token) ends = tt
-  one_of (command.Split name key token) ends = tt
-  one_of (command.Merge name key token) ends = tt
-  one_of other ends = absurd ends
-
   names : (e : Entry) (r : Reply) → Says e session l.command r l.op.number → Names e l.command l.op.number r
   names e r says = record { command = says.command; operation = says.operation; reply = says.answered }
 
   abbrev On : Entry → Image → List Happening → Type 0
   On e image hs = P image hs × (Sound image → Stands Needs e.session l image → FollowsAtCommit e.session l.command image l.op nobody nobody)
 
-  on : IsAdding l.command → (e : Entry) → Passes (On e) old new
-  on adding e = passes_weaker P (On e) old new (λ image hs p. (p, λ sound stands. adding_at_commit e.session l image sound stands adding nobody)) passes
+  -- the token opens what is replaced wherever the stores are steady
+  on : AreSteady before old → IsOneOperation l.command → (e : Entry) → Passes (On e) old new
+  on steady one e = passes_weaker (λ image hs. IsSteady before image × P image hs) (On e) old new (λ image hs p. (p.1, λ sound stands. follows_at_commit e.session l image sound stands one (p.0.plain session l is).0))
+      (passes_with P old new passes (IsSteady before) steady)
 
   abbrev some_entry : Reply → Entry
   some_entry r = record { session = session; command = l.command; reply = Some r; moment = 0; operation = l.op.number }
@@ -167,15 +151,15 @@ module _ (old new : Outside) (before : AllDoing) (session : ℕ) (l : Live) (is 
   says_so : (r : Reply) → Says (some_entry r) session l.command r l.op.number
   says_so r = record { of_session = refl; command = refl; answered = refl; operation = refl }
 
-  at_commit : IsAdding l.command → (image : Image) → IsSteady before image → FollowsAtCommit session l.command image l.op nobody nobody
-  at_commit adding image s = adding_at_commit session l image s.sound (s.stand session l is) adding nobody
+  at_commit : IsOneOperation l.command → (image : Image) → IsSteady before image → FollowsAtCommit session l.command image l.op nobody nobody
+  at_commit one image s = follows_at_commit session l image s.sound (s.stand session l is) one (s.plain session l is).0
 
-  module _ (adding : IsAdding l.command) (forward : IsForward l.stage) (left : Option Op) (next : AllDoing) (then : IsThen before session (Resting left) next) (known : Known) where
+  module _ (one : IsOneOperation l.command) (forward : IsForward l.stage) (left : Option Op) (next : AllDoing) (then : IsThen before session (Resting left) next) (known : Known) where
     -- what an entry that ends it makes of the stores, by a law of cores by contents
     ends_by : (r : Reply)
         → ((image : Image) → IsSteady before image → P image passes.happened → CoreAlone Needs image (record { entry = some_entry r; before = meaning image } ∷ []) nobody (after_all image passes.happened) next)
         → ((image : Image) → IsSteady before image → P image passes.happened → (op : Op) → left ≡ Some op → AtStage op Committed (after_all image passes.happened))
-        → ((mode : Mode) (history : List Entry) (e : Entry) → Says e session l.command r l.op.number → e.session ≡ session → IfTrail new.told (λ trail. e.moment ≡ end_of_trail trail)
+        → (AreSteady before old → (mode : Mode) (history : List Entry) (e : Entry) → Says e session l.command r l.op.number → e.session ≡ session → IfTrail new.told (λ trail. e.moment ≡ end_of_trail trail)
         → Leads mode old.told new.told (seen_with history before) (with_entry (seen_with history before) e next) (text_of mode e))
         → Ends session l.command r l.op.number known known old new before next
     ends_by r alone own leads = record {
@@ -186,7 +170,7 @@ module _ (old new : Outside) (before : AllDoing) (session : ℕ) (l : Live) (is 
       settled = λ steady copy. keeps_settled P old new passes before (settled_here forward) steady;
       copy = λ ok steady copy. passes_on P old new passes (λ image. IsSteady before image × (known ≡ known_of (global image))) (λ image. known ≡ known_of (global image))
           (λ image s p. copy_here forward known image s.0 p s.1) (contents_both old.told (IsSteady before) (λ image. known ≡ known_of (global image)) steady copy);
-      leads = λ steady copy mode history e says now. leads mode history e says says.of_session now;
+      leads = λ steady copy mode history e says now. leads steady mode history e says says.of_session now;
     }
 
     -- the session is that of the entry
@@ -198,19 +182,19 @@ module _ (old new : Outside) (before : AllDoing) (session : ℕ) (l : Live) (is 
 
     pub done_ends : l.stage ≡ TargetDone → IsOk result → ((op : Op) → left ≡ Some op → op ≡ l.op) → Ends session l.command reply.Ok l.op.number known known old new before next
     done_ends target ok own = ends_by reply.Ok
-        (λ image s p. done_alone image [] nobody image before (core_here before image s) (some_entry reply.Ok) l is target result ok passes.happened p (names (some_entry reply.Ok) reply.Ok (says_so reply.Ok)) nobody (at_commit adding image s) left next then)
+        (λ image s p. done_alone image [] nobody image before (core_here before image s) (some_entry reply.Ok) l is target result ok passes.happened p (names (some_entry reply.Ok) reply.Ok (says_so reply.Ok)) nobody (at_commit one image s) left next then)
         (λ image s p op here. let a = p s.sound (stage_here forward image s) in
         subst (λ o. AtStage o Committed (after_all image passes.happened)) (sym (own op here)) (subst (λ name. AtStage l.op (next_stage name) (after_all image passes.happened)) target (a.reached ok)))
-        (λ mode history e says same now. done_leads mode old new (seen_with history before) e now left next (rests_then e same) l (live_then e same) result target (one_of l.command (adds_one l.command adding)) ok (names e reply.Ok says) (on adding e))
+        (λ steady mode history e says same now. done_leads mode old new (seen_with history before) e now left next (rests_then e same) l (live_then e same) result target one ok (names e reply.Ok says) (on steady one e))
 
     pub fault_ends : left ≡ None → Ends session l.command reply.Fault l.op.number known known old new before next
     fault_ends none = ends_by reply.Fault
-        (λ image s p. faults_alone image [] nobody image before (core_here before image s) (some_entry reply.Fault) l is forward (adds_one l.command adding) result passes.happened p (names (some_entry reply.Fault) reply.Fault (says_so reply.Fault)) (at_commit adding image s) left next then)
+        (λ image s p. fault_named_alone image [] image before (core_here before image s) (some_entry reply.Fault) l is forward result passes.happened p (names (some_entry reply.Fault) reply.Fault (says_so reply.Fault)) (at_commit one image s) left next then one)
         (λ image s p op here. absurd (none_some op (sym none ∙ here)))
-        (λ mode history e says same now. fault_leads mode old new (seen_with history before) e now left next (rests_then e same) l (live_then e same) result forward (adds_one l.command adding) (names e reply.Fault says) (on adding e))
+        (λ steady mode history e says same now. named_leads mode old new history before e now left next (rests_then e same) l (live_then e same) result forward one (names e reply.Fault says) (on steady one e))
 
     pub memory_ends : left ≡ None → FailsByMemory result → Ends session l.command reply.Memory l.op.number known known old new before next
     memory_ends none fails = ends_by reply.Memory
-        (λ image s p. memory_alone image [] nobody image before (core_here before image s) (some_entry reply.Memory) l is forward (one_of l.command (adds_one l.command adding)) result fails passes.happened p (names (some_entry reply.Memory) reply.Memory (says_so reply.Memory)) left next then)
+        (λ image s p. memory_alone image [] nobody image before (core_here before image s) (some_entry reply.Memory) l is forward one result fails passes.happened p (names (some_entry reply.Memory) reply.Memory (says_so reply.Memory)) left next then)
         (λ image s p op here. absurd (none_some op (sym none ∙ here)))
-        (λ mode history e says same now. memory_leads mode old new (seen_with history before) e now left next (rests_then e same) l (live_then e same) result forward (one_of l.command (adds_one l.command adding)) fails (names e reply.Memory says) passes)
+        (λ steady mode history e says same now. memory_leads mode old new (seen_with history before) e now left next (rests_then e same) l (live_then e same) result forward one fails (names e reply.Memory says) passes)

@@ -7,8 +7,9 @@ use Rattle.cell_world.specs.Outside.{Outside, IfContents}
 use Rattle.cell_world.specs.Sound.{Sound}
 use Rattle.cell_world.proofs.ContentsLaws.{contents_all, contents_both, contents_weaker}
 use Rattle.global_tables.specs.Known.{Known, known_of}
-use Rattle.map_ops.specs.Planning.{is_asked, is_planned, is_long_planned}
-use Rattle.map_ops.proofs.PlannedLaws.{asked_is_short, planned_is_short}
+use Rattle.map_ops.specs.Planning.{is_asked, is_long}
+use Rattle.plain_model.specs.ShortCommands.{is_short, is_short_answer, is_short_refusal, is_short_reply, standing_with, FollowsShort, IsShortAnswer}
+use Rattle.map_ops.proofs.PlannedLaws.{asked_is_short}
 use Rattle.plain_model.specs.declared.commands.Command.{Command}
 use Rattle.plain_model.specs.declared.commands.Command.TheVariants as command
 use Rattle.plain_model.specs.declared.history.Entry.{Entry}
@@ -19,7 +20,6 @@ use Rattle.plain_model.specs.Follows.{Follows}
 use Rattle.plain_model.specs.JobSteps.{asked_number}
 use Rattle.plain_model.specs.OnTrail.{OnTrail}
 use Rattle.plain_model.specs.Refusing.{refusal}
-use Rattle.plain_model.specs.ShortCommands.{is_short_answer, is_short_refusal, is_short_reply, standing_with, FollowsShort, IsShortAnswer}
 use Rattle.plain_model.proofs.ShortCommands.{short_done, short_refused, short_unmade, short_memory, answer_is_reply}
 use Rattle.session_laws.specs.Doing.{AllDoing, Resting}
 use Rattle.manager_core.specs.Answering.{IsCopy}
@@ -34,8 +34,8 @@ asks_no_job (command.Run number) asked = absurd cc
 asks_no_job c asked = refl
 
 -- each is a short one, or a long one
-pub short_or_long : (c : Command) → is_asked c ≡ true → {P : Type 0} → (is_planned c ≡ true → P) → (is_long_planned c ≡ true → P) → P
-short_or_long c asked short long = ⊎_elim long (λ none. short (asked_is_short c asked none)) (cases_Bool (is_long_planned c))
+pub short_or_long : (c : Command) → is_asked c ≡ true → {P : Type 0} → (is_short c ≡ true → P) → (is_long c ≡ true → P) → P
+short_or_long c asked short long = ⊎_elim long (λ none. short (asked_is_short c asked none)) (cases_Bool (is_long c))
 
 -- what is promised where the stores are steady and the copy is one may be shown there
 pub ends_where : (session : ℕ) (c : Command) (r : Reply) (number : ℕ) (known fresh : Known) (old new : Outside) (before after : AllDoing) → (AreSteady before old → IsCopy known old.told → Ends session c r number known fresh old new before after) → Ends session c r number known fresh old new before after
@@ -66,16 +66,16 @@ module _ (session : ℕ) (c : Command) (image : Image) where
 
   module _ (asked : is_asked c ≡ true) where
     pub fits_fault : FitsAt session c reply.Fault image
-    fits_fault = short_or_long c asked (λ planned. fits_short reply.Fault (short_unmade session c (planned_is_short c planned) A A refl)) (λ long. fault_fits session c long image)
+    fits_fault = short_or_long c asked (λ planned. fits_short reply.Fault (short_unmade session c planned A A refl)) (λ long. fault_fits session c long image)
 
     pub fits_memory : FitsAt session c reply.Memory image
-    fits_memory = short_or_long c asked (λ planned. fits_short reply.Memory (short_memory session c (planned_is_short c planned) A A refl)) (λ long. memory_fits session c long image)
+    fits_memory = short_or_long c asked (λ planned. fits_short reply.Memory (short_memory session c planned A A refl)) (λ long. memory_fits session c long image)
 
     pub fits_refused : (x : Refusal) → is_short_refusal x ≡ true → refusal A session c ≡ Some x → FitsAt session c (reply.Refused x) image
-    fits_refused x word is = short_or_long c asked (λ planned. fits_short (reply.Refused x) (short_refused session c (planned_is_short c planned) A A x word is refl)) (λ long. refused_fits session c long image x word is)
+    fits_refused x word is = short_or_long c asked (λ planned. fits_short (reply.Refused x) (short_refused session c planned A A x word is refl)) (λ long. refused_fits session c long image x word is)
 
-  pub fits_answer : (r : Reply) → is_short_answer r ≡ true → is_planned c ≡ true → IsShortAnswer session c r image → FitsAt session c r image
-  fits_answer r answer planned so = fits_short r (short_done session c (planned_is_short c planned) A A r answer (so nobody).0 (so nobody).1)
+  pub fits_answer : (r : Reply) → is_short_answer r ≡ true → is_short c ≡ true → IsShortAnswer session c r image → FitsAt session c r image
+  fits_answer r answer planned so = fits_short r (short_done session c planned A A r answer (so nobody).0 (so nobody).1)
 
 -- ---- it ends
 
@@ -94,6 +94,6 @@ module _ (session : ℕ) (c : Command) (asked : is_asked c ≡ true) (before : A
   refused_quietly x word is = ends_with (reply.Refused x) word
       (λ steady copy. contents_weaker old.told (λ image. refusal (standing_with image nobody) session c ≡ Some x) (FitsAt session c (reply.Refused x)) (λ image here. fits_refused session c image asked x word here) (is steady copy))
 
-  pub answer_quietly : (r : Reply) → is_short_answer r ≡ true → is_planned c ≡ true → (AreSteady before old → IsCopy known old.told → IfContents old.told (IsShortAnswer session c r)) → Ends session c r 0 known known old new before before
+  pub answer_quietly : (r : Reply) → is_short_answer r ≡ true → is_short c ≡ true → (AreSteady before old → IsCopy known old.told → IfContents old.told (IsShortAnswer session c r)) → Ends session c r 0 known known old new before before
   answer_quietly r answer planned is = ends_with r (answer_is_reply r answer)
       (λ steady copy. contents_weaker old.told (IsShortAnswer session c r) (FitsAt session c r) (λ image here. fits_answer session c image r answer planned here) (is steady copy))

@@ -1,13 +1,17 @@
 -- A command of one operation is answered where nothing of its operation was tried.
 use Rattle.std.proofs.Common.{◌≡◌, inl, inr, ℕ, ◌^◌, true, false, refl, sym, ap, ◌∙◌, subst, Some, None, Option, List, []}
+use Rattle.std.specs.Prelude.{IsTrue}
 use Rattle.cell_world.specs.Images.{Image, Trail, image_at, end_of_trail}
-use Rattle.cell_world.specs.Plain.{PlainState, nobody, with_connections, holds_nothing}
+use Rattle.cell_world.specs.Jobs.{table_row}
+use Rattle.cell_world.specs.Plain.{PlainState, nobody, owner, with_connections, holds_nothing}
 use Rattle.cell_world.specs.Meaning.{meaning, next_operation}
 use Rattle.cell_world.specs.Outside.{Outside, Told, TellsContents, TellsTrail, IfContents, IfTrail}
+use Rattle.cell_world.specs.declared.operations.JobRow.{JobRow}
 use Rattle.cell_world.specs.declared.operations.Op.{Op}
+use Rattle.cell_world.specs.declared.operations.Piece.{Piece}
 use Rattle.cell_world.proofs.ContentsLaws.{contents_both}
 use Rattle.global_tables.specs.Known.{Known}
-use Rattle.map_ops.specs.Planning.{is_long_planned}
+use Rattle.map_ops.specs.Planning.{is_long}
 use Rattle.plain_model.specs.declared.commands.Command.{Command}
 use Rattle.plain_model.specs.declared.commands.Command.TheVariants as command
 use Rattle.plain_model.specs.declared.history.Entry.{Entry}
@@ -15,11 +19,11 @@ use Rattle.plain_model.specs.declared.replies.Reply.{Reply}
 use Rattle.plain_model.specs.declared.replies.Reply.TheVariants as reply
 use Rattle.plain_model.specs.declared.replies.Refusal.{Refusal}
 use Rattle.plain_model.specs.declared.replies.Refusal.TheVariants as refused
-use Rattle.plain_model.specs.Follows.{Follows, NumbersAreSpent, takes_number}
-use Rattle.plain_model.specs.JobSteps.{asked_number, asked_job, is_finish_step}
+use Rattle.plain_model.specs.Follows.{Follows, FollowsFault, NumbersAreSpent, takes_number}
+use Rattle.plain_model.specs.JobSteps.{asked_number, asked_job, is_finish, is_finish_step}
 use Rattle.plain_model.specs.Legal.{AllGoing, IsPlanned, Promises, is_job_running}
-use Rattle.plain_model.specs.OnTrail.{OnTrail}
-use Rattle.plain_model.specs.Refusing.{refusal}
+use Rattle.plain_model.specs.OnTrail.{EndsIfTried, FaultOnTrail, OnTrail}
+use Rattle.plain_model.specs.Refusing.{if_there, mapping_of, refusal}
 use Rattle.plain_model.specs.Running.{text_of}
 use Rattle.plain_model.specs.ShortCommands.{is_short_refusal, is_short_reply, standing_with}
 use Rattle.plain_model.specs.Steps.{plain_step, refused_or_done}
@@ -31,11 +35,13 @@ use Rattle.session_laws.specs.Contract.{CoreOn, CoreGoesOn, CoreTo, CoreGoesTo}
 use Rattle.session_laws.specs.Core.{Answers}
 use Rattle.session_laws.specs.Doing.{Resting, AllDoing}
 use Rattle.session_laws.proofs.ContractLaws.{core_answered, core_entered_to}
-use Rattle.operation_laws.specs.Entries.{EndsNone, IsOneOperation}
-use Rattle.operation_laws.proofs.Entries.{follows_fault, follows_memory}
+use Rattle.operation_laws.specs.Entries.{IsOneOperation}
 use Rattle.operation_laws.specs.Leading.{Leads, with_entry}
+use Rattle.operation_laws.proofs.Entries.{follows_memory}
+use Rattle.operation_laws.proofs.Reaches.{asks_none}
 use Rattle.manager_core.specs.Answering.{IsCopy}
 use Rattle.manager_core.specs.Steady.{IsSteady, AreSteady, IsSettledOp, Ends, Says, seen_with}
+use Rattle.manager_core.proofs.NobodyEnds.{long_is_one, nobody_ends}
 
 -- On this image the entry follows with nothing changed.
 pub record FitsAt (session : ℕ) (c : Command) (r : Reply) (image : Image) : Type 0 where
@@ -122,9 +128,41 @@ module _ (session : ℕ) (c : Command) (no_job : asked_number c ≡ None) (r : R
     leads = λ steady copy mode history e says now. leads_quiet e says steady mode history now;
   }
 
+-- ---- by commands
+
+-- a long command takes a number
+takes_long : (c : Command) → is_long c ≡ true → IsTrue (takes_number c)
+takes_long (command.Add name low high location) long = refl
+takes_long (command.Addpoint name key location) long = refl
+takes_long (command.Delete name key token) long = refl
+takes_long (command.Offline name key token) long = refl
+takes_long (command.Online name key token) long = refl
+takes_long (command.Move name key location token) long = refl
+takes_long (command.Split name key token) long = refl
+takes_long (command.Merge name key token) long = refl
+takes_long other long = absurd cc
+
+-- its fault may leave all as it was
+fault_leaves : (A : PlainState) (e : Entry) (c : Command) → is_long c ≡ true → FollowsFault A A e c None
+fault_leaves A e (command.Offline name key token) long = inr (inl refl)
+fault_leaves A e (command.Attach location) long = absurd cc
+fault_leaves A e (command.Clear location) long = absurd cc
+fault_leaves A e (command.Detach location) long = absurd cc
+fault_leaves A e c long = inl refl
+
+-- where nobody is connected no connection has to end
+none_to_end : (start : Image) (past : Timeline) (e : Entry) (s : PlainState) (m : Option Piece) → EndsIfTried start past e (with_connections s nobody) (with_connections s nobody) m
+none_to_end start past e s None = tt
+none_to_end start past e s (Some p) = λ tried. sym (nobody_ends (Some p))
+
+fault_told : (start : Image) (past : Timeline) (e : Entry) (s : PlainState) (c : Command) → is_long c ≡ true → FaultOnTrail start past e (with_connections s nobody) (with_connections s nobody) c None
+fault_told start past e s (command.Offline name key token) long = none_to_end start past e s (mapping_of (with_connections s nobody) name key)
+fault_told start past e s (command.Attach location) long = absurd cc
+fault_told start past e s c long = tt
+
 -- ---- the replies of a command that is planned as an operation
 
-module _ (session : ℕ) (c : Command) (long : is_long_planned c ≡ true) (image : Image) where
+module _ (session : ℕ) (c : Command) (long : is_long c ≡ true) (image : Image) where
   abbrev A : PlainState
   A = standing_with image nobody
 
@@ -150,58 +188,34 @@ module _ (session : ℕ) (c : Command) (long : is_long_planned c ≡ true) (imag
   pub refused_fits : (r : Refusal) → is_short_refusal r ≡ true → refusal A session c ≡ Some r → FitsAt session c (reply.Refused r) image
   refused_fits r word is = record { follows = refused_follows r word is; on_trail = λ start past at e says. refused_on_trail r is start past e says }
 
+  -- it asks for no job
+  no_job_of : asked_job A c ≡ None
+  no_job_of = let none = asks_none c (long_is_one c long) in cc
+
   -- no number is left
-  spent : (c : Command) → is_long_planned c ≡ true → (e : Entry) → e.command ≡ c → refusal A e.session e.command ≡ None → NumbersAreSpent A A e
-  spent (command.Add name low high location) is e at accepted = record {
+  spent : (e : Entry) → e.command ≡ c → refusal A e.session e.command ≡ None → NumbersAreSpent A A e
+  spent e at accepted = record {
     same = refl;
     accepted = accepted;
-    takes = subst (λ x. Rattle.std.specs.Prelude.IsTrue (takes_number x)) (sym at) refl;
-    no_finish = ap (is_finish_step A) at;
+    takes = subst (λ x. IsTrue (takes_number x)) (sym at) (takes_long c long);
+    no_finish = ap (is_finish_step A) at ∙ ap (if_there (λ (job : JobRow). is_finish (table_row (owner A) A.mappings job))) no_job_of;
   }
-  spent (command.Addpoint name key location) is e at accepted = record {
-    same = refl;
-    accepted = accepted;
-    takes = subst (λ x. Rattle.std.specs.Prelude.IsTrue (takes_number x)) (sym at) refl;
-    no_finish = ap (is_finish_step A) at;
-  }
-  spent other is e at accepted = absurd cc
 
   pub full_fits : refusal A session c ≡ None → next_operation image ≡ 2 ^ 63 → FitsAt session c (reply.Refused refused.Full) image
   full_fits accepted last = record {
-    follows = λ past e says. inr (spent c long e says.command (ap (λ s. refusal A s e.command) says.of_session ∙ ap (refusal A session) says.command ∙ accepted));
+    follows = λ past e says. inr (spent e says.command (ap (λ s. refusal A s e.command) says.of_session ∙ ap (refusal A session) says.command ∙ accepted));
     on_trail = λ start past at e says. inr (ap next_operation at ∙ last);
   }
 
   -- a call failed, or memory is short
   pub fault_fits : FitsAt session c reply.Fault image
   fault_fits = record {
-    follows = λ past e says. subst (Follows past A e A) says.answered (follows_fault past A A e (ends e says) (inl refl) says.answered);
-    on_trail = λ start past at e says. on_trail c long start past e says.command;
+    follows = λ past e says. subst (λ x. FollowsFault A A e x (asked_job A x)) (sym says.command) (subst (FollowsFault A A e c) (sym no_job_of) (fault_leaves A e c long));
+    on_trail = λ start past at e says. subst (λ x. FaultOnTrail start past e A A x (asked_job A x)) (sym says.command) (subst (FaultOnTrail start past e A A c) (sym no_job_of) (fault_told start past e (meaning image) c long));
   }
-    where
-      ends : (e : Entry) → Says e session c reply.Fault 0 → EndsNone e.command
-      ends e says = subst EndsNone (sym says.command) (by c long)
-        where
-          by : (c : Command) → is_long_planned c ≡ true → EndsNone c
-          by (command.Add name low high location) is = tt
-          by (command.Addpoint name key location) is = tt
-          by other is = absurd cc
-
-      on_trail : (c : Command) → is_long_planned c ≡ true → (start : Image) (past : Timeline) (e : Entry) → e.command ≡ c → OnTrail start past A e A (Some reply.Fault)
-      on_trail (command.Add name low high location) is start past e at = subst (λ x. Rattle.plain_model.specs.OnTrail.FaultOnTrail start past e A A x (asked_job A x)) (sym at) tt
-      on_trail (command.Addpoint name key location) is start past e at = subst (λ x. Rattle.plain_model.specs.OnTrail.FaultOnTrail start past e A A x (asked_job A x)) (sym at) tt
-      on_trail other is start past e at = absurd cc
 
   pub memory_fits : FitsAt session c reply.Memory image
   memory_fits = record {
-    follows = λ past e says. subst (Follows past A e A) says.answered (follows_memory past A A e (one e says) refl says.answered);
+    follows = λ past e says. subst (Follows past A e A) says.answered (follows_memory past A A e (subst IsOneOperation (sym says.command) (long_is_one c long)) refl says.answered);
     on_trail = λ start past at e says. tt;
   }
-    where
-      one : (e : Entry) → Says e session c reply.Memory 0 → IsOneOperation e.command
-      one e says = subst IsOneOperation (sym says.command) (by c long)
-        where
-          by : (c : Command) → is_long_planned c ≡ true → IsOneOperation c
-          by (command.Add name low high location) is = tt
-          by (command.Addpoint name key location) is = tt
-          by other is = absurd cc

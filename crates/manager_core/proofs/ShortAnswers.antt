@@ -9,13 +9,12 @@ use Rattle.cell_world.specs.Stores.{Store, IsKeyed, changed}
 use Rattle.cell_world.specs.declared.changes.Edit.{Edit}
 use Rattle.cell_world.proofs.ContentsLaws.{contents_all, contents_both, contents_weaker}
 use Rattle.global_tables.specs.Known.{Known, known_of}
-use Rattle.map_ops.specs.Planning.{is_planned}
-use Rattle.map_ops.proofs.PlannedLaws.{planned_is_short, short_is_asked}
+use Rattle.plain_model.specs.ShortCommands.{is_short, short_commit, standing_with}
+use Rattle.map_ops.proofs.PlannedLaws.{short_is_asked}
 use Rattle.op_steps.proofs.Rises.{rose_global}
 use Rattle.plain_model.specs.declared.commands.Command.{Command}
 use Rattle.plain_model.specs.declared.replies.Reply.TheVariants as reply
 use Rattle.plain_model.specs.OnTrail.{logs_put}
-use Rattle.plain_model.specs.ShortCommands.{short_commit, standing_with}
 use Rattle.plain_model.proofs.ShortCommands.{short_done, short_unmade, short_made}
 use Rattle.session_laws.specs.Doing.{AllDoing, Resting}
 use Rattle.operation_laws.proofs.Left.{left_short}
@@ -39,24 +38,24 @@ tries_short change took no_log old new told number = record { change = change; t
 
 module _ (change : List Edit) (no_log : logs_put change ≡ []) (known : Known) (old new : Outside) where
   -- what it is where it may be made
-  module _ (session : ℕ) (c : Command) (before : AllDoing) (planned : is_planned c ≡ true) (rests : before session ≡ Resting None) where
-    made_at : (image : Image) → IsSteady before image → MayMake c change image → CommitsAt session c (planned_is_short c planned) reply.Ok refl change true no_log before rests image
+  module _ (session : ℕ) (c : Command) (before : AllDoing) (planned : is_short c ≡ true) (rests : before session ≡ Resting None) where
+    made_at : (image : Image) → IsSteady before image → MayMake c change image → CommitsAt session c planned reply.Ok refl change true no_log before rests image
     made_at image s may =
         let so = may.changes session in record {
           sound = so.sound;
           numbers = so.numbers;
-          follows = short_done session c (planned_is_short c planned) (standing_with image nobody) (standing_with (after_one image (short_commit change true)) nobody) reply.Ok refl (so.accepts nobody) (so.becomes nobody);
+          follows = short_done session c planned (standing_with image nobody) (standing_with (after_one image (short_commit change true)) nobody) reply.Ok refl (so.accepts nobody) (so.becomes nobody);
           stand = all_stand_short before image s.sound s.stand may.reached (after_one image (short_commit change true)) may.short may.none;
           left = left_short before image (after_one image (short_commit change true)) may.reached s.left may.short;
           settled = settled_short may.reached image (after_one image (short_commit change true)) may.short;
         }
 
-    fault_at : (took : Bool) (image : Image) → IsSteady before image → MayMake c change image → CommitsAt session c (planned_is_short c planned) reply.Fault refl change took no_log before rests image
+    fault_at : (took : Bool) (image : Image) → IsSteady before image → MayMake c change image → CommitsAt session c planned reply.Fault refl change took no_log before rests image
     fault_at true image s may =
         let so = may.changes session in record {
           sound = so.sound;
           numbers = so.numbers;
-          follows = short_made session c (planned_is_short c planned) (standing_with image nobody) (standing_with (after_one image (short_commit change true)) nobody) reply.Ok (so.accepts nobody) (so.becomes nobody);
+          follows = short_made session c planned (standing_with image nobody) (standing_with (after_one image (short_commit change true)) nobody) reply.Ok (so.accepts nobody) (so.becomes nobody);
           stand = all_stand_short before image s.sound s.stand may.reached (after_one image (short_commit change true)) may.short may.none;
           left = left_short before image (after_one image (short_commit change true)) may.reached s.left may.short;
           settled = settled_short may.reached image (after_one image (short_commit change true)) may.short;
@@ -64,7 +63,7 @@ module _ (change : List Edit) (no_log : logs_put change ≡ []) (known : Known) 
     fault_at false image s may = record {
       sound = s.sound;
       numbers = refl;
-      follows = short_unmade session c (planned_is_short c planned) (standing_with image nobody) (standing_with image nobody) refl;
+      follows = short_unmade session c planned (standing_with image nobody) (standing_with image nobody) refl;
       stand = s.stand;
       left = s.left;
       settled = λ op is. is;
@@ -84,8 +83,8 @@ module _ (change : List Edit) (no_log : logs_put change ≡ []) (known : Known) 
   makes_done fresh cells follows told = record {
     answers = inl refl;
     tries = λ number. (refl, tries_short change true no_log old.told new.told told number);
-    ends = λ session c before planned rests may. commit_ends session c (planned_is_short c planned) reply.Ok refl change true no_log before rests old new told known fresh
-        (λ steady copy. contents_weaker old.told (λ image. IsSteady before image × MayMake c change image) (CommitsAt session c (planned_is_short c planned) reply.Ok refl change true no_log before rests)
+    ends = λ session c before planned rests may. commit_ends session c planned reply.Ok refl change true no_log before rests old new told known fresh
+        (λ steady copy. contents_weaker old.told (λ image. IsSteady before image × MayMake c change image) (CommitsAt session c planned reply.Ok refl change true no_log before rests)
         (λ image both. made_at session c before planned rests image both.0 both.1) (at_steady session c before planned rests steady copy may))
         (λ ok copy. copy_made old.told new.told known fresh change cells told follows copy);
     cause = λ is. absurd cc;
@@ -95,8 +94,8 @@ module _ (change : List Edit) (no_log : logs_put change ≡ []) (known : Known) 
   makes_maybe took told later rose = record {
     answers = inr (inl refl);
     tries = λ number. inl (refl, inr (tries_short change took no_log old.told new.told told number));
-    ends = λ session c before planned rests may. commit_ends session c (planned_is_short c planned) reply.Fault refl change took no_log before rests old new told known known
-        (λ steady copy. contents_weaker old.told (λ image. IsSteady before image × MayMake c change image) (CommitsAt session c (planned_is_short c planned) reply.Fault refl change took no_log before rests)
+    ends = λ session c before planned rests may. commit_ends session c planned reply.Fault refl change took no_log before rests old new told known known
+        (λ steady copy. contents_weaker old.told (λ image. IsSteady before image × MayMake c change image) (CommitsAt session c planned reply.Fault refl change took no_log before rests)
         (λ image both. fault_at session c before planned rests took image both.0 both.1) (at_steady session c before planned rests steady copy may))
         (λ ok. absurd (ok refl));
     cause = λ is. rose_global old new later.faults rose;

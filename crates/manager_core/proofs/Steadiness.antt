@@ -78,7 +78,7 @@ pub core_here : (doing : AllDoing) (image : Image) → IsSteady doing image → 
 core_here doing image s = record { run = alone_begins image s.sound; promises = tt; pendings = tt; stand = s.stand; one = s.one; one_job = s.one_job }
 
 pub steady_of : (doing : AllDoing) (first : Image) (past : Past) (connections : Connections) (image : Image) → CoreAlone Needs first past connections image doing
-    → ((session : ℕ) (l : Live) → live_of (doing session) ≡ Some l → IsPlainOp l.op) → AreLeft doing image → IsSteady doing image
+    → ((session : ℕ) (l : Live) → live_of (doing session) ≡ Some l → IsPlainOp l) → AreLeft doing image → IsSteady doing image
 steady_of doing first past connections image core none left = record { sound = core.run.sound; stand = core.stand; one = core.one; one_job = core.one_job; plain = none; left = left }
 
 -- ---- over what is told
@@ -117,7 +117,7 @@ module _ (P : Image → List Happening → Type 0) (old new : Outside) (passes :
   -- what a law gives of a core, on its trail and by contents alone, and of what is left, is what the call makes of it
   pub becomes_by : ((t0 : ℕ) (start : Image) (mode : Mode) (past : Timeline) → IsSteady before (image_of start past) → P (image_of start past) passes.happened → Core Needs t0 start mode past nobody [] before → Core Needs t0 start mode (happened_on past passes.happened) nobody [] after)
       → ((first : Image) (past : Past) (image : Image) → IsSteady before image → P image passes.happened → CoreAlone Needs first past nobody image before → CoreAlone Needs first past nobody (after_all image passes.happened) after)
-      → ((image : Image) → IsSteady before image → P image passes.happened → ((session : ℕ) (l : Live) → live_of (after session) ≡ Some l → IsPlainOp l.op) × AreLeft after (after_all image passes.happened))
+      → ((image : Image) → IsSteady before image → P image passes.happened → ((session : ℕ) (l : Live) → live_of (after session) ≡ Some l → IsPlainOp l) × AreLeft after (after_all image passes.happened))
       → ((image : Image) → IsSteady before image → P image passes.happened → (meaning (after_all image passes.happened) ≡ meaning image) × StaysSettled image (after_all image passes.happened))
       → ((known : Known) (image : Image) → IsSteady before image → P image passes.happened → known ≡ known_of (global image) → known ≡ known_of (global (after_all image passes.happened)))
       → Becomes old new before after

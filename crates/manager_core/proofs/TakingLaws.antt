@@ -26,9 +26,10 @@ use Rattle.manager_core.specs.Beginnings.{Takes, TakesUp, TakesUpBelow, IsFullAt
 use Rattle.manager_core.specs.declared.beginning.Taken.{Taken}
 use Rattle.manager_core.specs.declared.beginning.Taken.TheVariants as taken
 use Rattle.manager_core.specs.Steady.{IsSteady, Ends}
-use Rattle.manager_core.proofs.BeginningLaws.{adds_one, full_ends, going_becomes, memory_ends_before, pending_ends, store_ends, tried_ends}
+use Rattle.manager_core.proofs.BeginningLaws.{full_ends, going_becomes, memory_ends_before, pending_ends, store_ends, tried_ends}
 use Rattle.manager_core.proofs.ExactTaking.{exact_going, exact_later, exact_pending, exact_quiet, exact_same, exact_tried, names_pending}
 use Rattle.manager_core.proofs.MovingLaws.{ends_after}
+use Rattle.manager_core.proofs.NobodyEnds.{long_is_one}
 use Rattle.manager_core.proofs.QuietEnds.{FitsAt, quiet_ends, fault_fits, memory_fits}
 use Rattle.manager_core.proofs.Steadiness.{becomes_same, becomes_then}
 
@@ -93,7 +94,7 @@ module _ (live : List ℕ) (op : Op) (old new : Outside) where
 
     pub store_takes : TakesUp live op taken.Store old new
     store_takes = record {
-      takes = λ session c before left long are rests plans known. quiet_ends session c (asks_none c (adds_one c long)) reply.Fault refl before left rests old new same
+      takes = λ session c before left long are rests plans known. quiet_ends session c (asks_none c (long_is_one c long)) reply.Fault refl before left rests old new same
           (contents_all old.told (λ image. IsSteady before image → FitsAt session c reply.Fault image) (λ image s. fault_fits session c long image)) known;
       exact = λ c before are steady plans. exact_same op before old new taken.Store (inl (refl, inl refl)) tt tt same;
       names = tt;
@@ -103,7 +104,7 @@ module _ (live : List ℕ) (op : Op) (old new : Outside) where
 
     pub memory_takes : TakesUp live op taken.Memory old new
     memory_takes = record {
-      takes = λ session c before left long are rests plans known. quiet_ends session c (asks_none c (adds_one c long)) reply.Memory refl before left rests old new same
+      takes = λ session c before left long are rests plans known. quiet_ends session c (asks_none c (long_is_one c long)) reply.Memory refl before left rests old new same
           (contents_all old.told (λ image. IsSteady before image → FitsAt session c reply.Memory image) (λ image s. memory_fits session c long image)) known;
       exact = λ c before are steady plans. exact_same op before old new taken.Memory (refl, refl) tt tt same;
       names = tt;

@@ -7,10 +7,10 @@ use Rattle.cell_world.specs.declared.changes.Edit.{Edit}
 use Rattle.cell_world.specs.declared.operations.Reach.{Reach}
 use Rattle.global_tables.specs.Known.{Known, known_of}
 use Rattle.global_tables.specs.declared.faults.StepFault.{StepFault}
-use Rattle.map_ops.specs.Planning.{NoneInWay, is_planned}
+use Rattle.map_ops.specs.Planning.{NoneInWay}
+use Rattle.plain_model.specs.ShortCommands.{is_short, short_commit, IsShortChange}
 use Rattle.op_log.specs.ShortChanges.{ShortChange}
 use Rattle.operation_laws.specs.LiveNumbers.{HasLive}
-use Rattle.plain_model.specs.ShortCommands.{short_commit, IsShortChange}
 use Rattle.plain_model.specs.declared.commands.Command.{Command}
 use Rattle.plain_model.specs.declared.replies.Reply.{Reply}
 use Rattle.plain_model.specs.declared.replies.Reply.TheVariants as reply
@@ -57,7 +57,7 @@ pub record MakesChange (change : List Edit) (answered : Reply) (known fresh : Kn
   -- where it leaves the next number
   pub tries : IfContents old.told (λ image. next_operation (after_one image (short_commit change true)) ≡ next_operation image) → TriesFor (Some answered) 0 old.told new.told
   -- where it may be made the entry of whatever session that rests comes next
-  pub ends : (session : ℕ) (c : Command) (before : AllDoing) → is_planned c ≡ true → before session ≡ Resting None
+  pub ends : (session : ℕ) (c : Command) (before : AllDoing) → is_short c ≡ true → before session ≡ Resting None
       → IfContents old.told (λ image. IsSteady before image → known ≡ known_of (global image) → MayMake c change image) → Ends session c answered 0 known fresh old new before before
   -- a fault has its cause
   pub cause : answered ≡ reply.Fault → StoreRoseBy 1 old new

@@ -9,7 +9,7 @@ use Rattle.cell_world.specs.declared.operations.Op.{Op}
 use Rattle.cell_world.specs.declared.operations.Reach.{Reach}
 use Rattle.cell_world.specs.declared.operations.StageName.TheVariants.{Logged}
 use Rattle.global_tables.specs.Known.{Known}
-use Rattle.map_ops.specs.Planning.{PlansLong, is_long_planned}
+use Rattle.map_ops.specs.Planning.{PlansLong, is_long}
 use Rattle.plain_model.specs.declared.commands.Command.{Command}
 use Rattle.plain_model.specs.declared.replies.Reply.{Reply}
 use Rattle.plain_model.specs.declared.replies.Reply.TheVariants as reply
@@ -103,7 +103,7 @@ BeginsIt op other = Unit {0}
 
 -- Whatever session rests and has it planned, with these numbers of live operations.
 pub record TakesUp (live : List ℕ) (op : Op) (result : Taken) (old new : Outside) : Type 0 where
-  pub takes : (session : ℕ) (c : Command) (before : AllDoing) (left : Option Op) → is_long_planned c ≡ true → AreTheLive live before → before session ≡ Resting left → IfContents old.told (λ image. Sound image → PlansLong c op image) → Takes session c op before result old new
+  pub takes : (session : ℕ) (c : Command) (before : AllDoing) (left : Option Op) → is_long c ≡ true → AreTheLive live before → before session ≡ Resting left → IfContents old.told (λ image. Sound image → PlansLong c op image) → Takes session c op before result old new
   -- over steady stores this is how
   pub exact : (c : Command) (before : AllDoing) → AreTheLive live before → AreSteady before old → IfContents old.told (λ image. Sound image → PlansLong c op image) → TakesExactly op before result old new
   pub names : NamesLive live result

@@ -12,7 +12,7 @@ use Rattle.cell_world.specs.declared.operations.StageName.{StageName}
 use Rattle.cell_world.specs.declared.operations.StageName.TheVariants.{Logged, SourceDone, TargetDone}
 use Rattle.global_tables.specs.Known.{Known}
 use Rattle.image_laws.specs.CommitEdits.{commit_edits}
-use Rattle.map_ops.specs.Planning.{is_long_planned}
+use Rattle.map_ops.specs.Planning.{is_long}
 use Rattle.op_steps.specs.Advancing.{AdvanceStep, SettlesAt, StepsAt}
 use Rattle.op_steps.specs.Beginning.{Logs}
 use Rattle.op_steps.specs.Passing.{IsCourse, told_after_all}
@@ -67,11 +67,11 @@ OrStops came r = (came ≡ Some r) ⊎ (came ≡ Some reply.Fault) ⊎ (came ≡
 -- no refusal of the command table holds, and of a long command the next number may be given
 pub record IsAdmitted (session : ℕ) (c : Command) (image : Image) : Type 0 where
   pub accepted : refusal (standing_with image nobody) session c ≡ None
-  pub number : is_long_planned c ≡ true → next_operation image ≡ 2 ^ 63 → ⊥
+  pub number : is_long c ≡ true → next_operation image ≡ 2 ^ 63 → ⊥
 
 -- no refusal of the command table holds, but no operation number is left for the command
 pub record IsFull (session : ℕ) (c : Command) (image : Image) : Type 0 where
-  pub long : is_long_planned c ≡ true
+  pub long : is_long c ≡ true
   pub accepted : refusal (standing_with image nobody) session c ≡ None
   pub last : next_operation image ≡ 2 ^ 63
 
@@ -85,8 +85,8 @@ pub record AsksExactly (doing : AllDoing) (session : ℕ) (c : Command) (came : 
   pub pending : (number : ℕ) → came ≡ Some (reply.Pending number) → IsAdmitted session c image × IsFirstInWay doing (reach_of_command (meaning image) c) number
   pub waits : (number : ℕ) → IsAdmitted session c image → IsFirstInWay doing (reach_of_command (meaning image) c) number → OrStops came (reply.Pending number)
   -- it is going just where it is a long command and none of these held
-  pub going : came ≡ None → is_long_planned c ≡ true
-  pub long : is_long_planned c ≡ true → came ≡ Some reply.Ok → ⊥
+  pub going : came ≡ None → is_long c ≡ true
+  pub long : is_long c ≡ true → came ≡ Some reply.Ok → ⊥
 
 -- ---- what happens
 
@@ -198,7 +198,7 @@ pub record IsAnswered (session : ℕ) (c : Command) (r : Reply) (number : ℕ) (
   pub rests : IsThen before session (Resting None) after
   pub ends : Ends session c r number known fresh old new before after
   -- a short command is no operation
-  pub names : is_long_planned c ≡ false → number ≡ 0
+  pub names : is_long c ≡ false → number ≡ 0
   -- it waits for a live operation, so for none where every other session rests
   pub waits_for : (other : ℕ) → r ≡ reply.Pending other → HasLive before other
   -- a fault has its cause

@@ -1,5 +1,5 @@
 -- What holds of the parts of a core between two events.
-use Rattle.std.specs.Prelude.{◌≡◌, ◌≤◌, ℕ, List, [], false, Option, Some, None}
+use Rattle.std.specs.Prelude.{◌≡◌, ◌≤◌, ℕ, List, [], false, Option, Some, None, IfSome}
 use Rattle.cell_world.specs.Images.{Image, Trail, global, image_at, end_of_trail}
 use Rattle.cell_world.specs.Keys.{is_among}
 use Rattle.cell_world.specs.Meaning.{meaning, next_operation}
@@ -33,19 +33,19 @@ pub record Parts : Type 0 where
   pub outside : Outside
   pub history : List Entry  -- in order
   pub doing : AllDoing  -- by session: what it does
-  pub known : Known  -- the copy of the tables
+  pub known : Option Known  -- the copy of the tables; none where it is to be read again
   pub stop : Option StopCause  -- why it takes no more events
 
-abbrev pub parts : Outside → List Entry → List Doing → Known → Option StopCause → Parts
+abbrev pub parts : Outside → List Entry → List Doing → Option Known → Option StopCause → Parts
 parts outside history doings known stop = record { outside = outside; history = history; doing = all_doing doings; known = known; stop = stop }
 
 abbrev pub seen_of : Parts → Seen
 seen_of p = seen_with p.history p.doing
 
--- The stores are steady beside what the sessions do; and until it stops the copy of the tables is what the global cells say.
+-- The stores are steady beside what the sessions do; and until it stops the copy of the tables, where there is one, is what the global cells say.
 pub record IsReady (p : Parts) : Type 0 where
   pub steady : AreSteady p.doing p.outside
-  pub copy : p.stop ≡ None → IsCopy p.known p.outside.told
+  pub copy : p.stop ≡ None → IfSome p.known (λ known. IsCopy known p.outside.told)
 
 -- Until it stops there is room for one entry more.
 abbrev pub HasRoom : Journaled → Option StopCause → Type 0

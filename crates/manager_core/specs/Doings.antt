@@ -2,7 +2,7 @@
 use Rattle.std.specs.Prelude.{◌≡◌, ℕ, true, List, [], ◌∷◌, ◌++◌, get_or, None, Some, if◌then◌else◌}
 use Rattle.std.proofs.Common.{suc, zero}
 use Rattle.cell_world.specs.declared.operations.StageName.TheVariants.{Committed}
-use Rattle.map_ops.specs.Planning.{is_long_planned}
+use Rattle.map_ops.specs.Planning.{is_long}
 use Rattle.manager_core.specs.declared.doings.Doing.{Doing}
 use Rattle.manager_core.specs.declared.doings.Doing.TheVariants as seat
 use Rattle.manager_core.specs.declared.doings.LeftOver.{LeftOver}
@@ -20,7 +20,7 @@ doing_of (seat.Operating c op stage) = laws.Operating c op (name_of stage)
 abbrev pub IsProper : Doing → Type 0
 IsProper seat.Resting = Unit {0}
 IsProper (seat.Leaving op stage) = name_of stage ≡ Committed
-IsProper (seat.Operating c op stage) = (is_long_planned c ≡ true) × IsForward (name_of stage)
+IsProper (seat.Operating c op stage) = (is_long c ≡ true) × IsForward (name_of stage)
 
 -- by session, from 1; there is no session 0, and none past the end
 abbrev pub all_doing : List Doing → laws.AllDoing

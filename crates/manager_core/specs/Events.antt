@@ -7,7 +7,7 @@ use Rattle.cell_world.specs.Outside.{Told, IfContents, StoreRoseBy, told_after}
 use Rattle.cell_world.specs.declared.operations.Op.{Op}
 use Rattle.cell_world.specs.declared.operations.StageName.{StageName}
 use Rattle.cell_world.specs.declared.operations.StageName.TheVariants.{Logged}
-use Rattle.map_ops.specs.Planning.{is_asked, is_long_planned}
+use Rattle.map_ops.specs.Planning.{is_asked, is_long}
 use Rattle.operation_laws.specs.LiveNumbers.{HasLive}
 use Rattle.plain_model.specs.declared.commands.Command.{Command}
 use Rattle.plain_model.specs.declared.history.Entry.{Entry}
@@ -82,7 +82,7 @@ HasCause event.Go other session c came number old between = ⊥
 
 -- The number is 0 for a command that is no operation, and for one that goes on that of its operation.
 abbrev pub IsNumbered : Event → Doing → Command → ℕ → Type 0
-IsNumbered (event.Ask asked) doing c number = is_long_planned c ≡ false → number ≡ 0
+IsNumbered (event.Ask asked) doing c number = is_long c ≡ false → number ≡ 0
 IsNumbered event.Go (Operating going op stage) c number = number ≡ op.number
 IsNumbered event.Go other c number = ⊥
 
@@ -155,10 +155,9 @@ pub record Goes (session : ℕ) (e : Event) (number : ℕ) (old new : Parts) : T
 
 -- ---- outcomes
 
--- With `memory` or, for now, `fault` the core stops.
+-- With `memory` the core stops.
 abbrev pub stop_after : Reply → Option StopCause
 stop_after reply.Memory = Some cause.Memory
-stop_after reply.Fault = Some cause.Store
 stop_after other = None
 
 -- The operation goes on; or the command is answered and all lines are written; or the entry stands and the core stops, with a front of the lines written where a write failed, and nothing written where it found no memory.
@@ -167,7 +166,6 @@ Comes tagged session e old new (Going number) = Goes session e number old new
 Comes tagged session e old new (Ended sort) = (r : Reply) × (sort ≡ sort_of r) × (new.stop ≡ stop_after r) × Enters tagged session e r old new (Some (reply_lines (tag_of tagged session) r)) []
 Comes tagged session e old new (Stopped cause.Sink) = (r : Reply) × (new.stop ≡ Some cause.Sink) × Rose old.outside.sink_faults new.outside.sink_faults × ((front rest : Text) × Enters tagged session e r old new (Some front) rest)
 Comes tagged session e old new (Stopped cause.Memory) = (r : Reply) × (new.stop ≡ Some cause.Memory) × Enters tagged session e r old new None (reply_lines (tag_of tagged session) r)
-Comes tagged session e old new (Stopped cause.Store) = ⊥
 
 -- A core that stopped answers so again, and does nothing.
 abbrev pub ComesAfter : Option StopCause → Bool → ℕ → Event → Parts → Parts → Outcome → Type 0

@@ -7,7 +7,7 @@ use Rattle.cell_world.specs.declared.operations.StageName.TheVariants.{Committed
 use Rattle.global_tables.specs.Known.{Known}
 use Rattle.global_tables.specs.declared.faults.StepFault.{StepFault}
 use Rattle.global_tables.specs.declared.faults.StepFault.TheVariants as fault
-use Rattle.map_ops.specs.Planning.{is_long_planned}
+use Rattle.map_ops.specs.Planning.{is_long}
 use Rattle.plain_model.specs.declared.commands.Command.{Command}
 use Rattle.plain_model.specs.declared.replies.Reply.{Reply}
 use Rattle.plain_model.specs.declared.replies.Reply.TheVariants as reply
@@ -34,7 +34,7 @@ Moves session c op before moved.Memory old new = (known : Known) (next : AllDoin
 
 -- so for whatever session has it going at the stage
 abbrev pub MovesOn : Op → StageName → Moved → Outside → Outside → Type 0
-MovesOn op name result old new = (session : ℕ) (c : Command) (before : AllDoing) → is_long_planned c ≡ true → before session ≡ Operating c op name → Moves session c op before result old new
+MovesOn op name result old new = (session : ℕ) (c : Command) (before : AllDoing) → is_long c ≡ true → before session ≡ Operating c op name → Moves session c op before result old new
 
 -- ---- what happens
 
@@ -52,7 +52,7 @@ answer_of moved.Memory = Some reply.Memory
 
 -- Whatever session has it going at the stage: over steady stores its local step or its commit is made, by one transaction; or at most one failed.
 abbrev pub MovesOnce : Op → StageName → Moved → Outside → Outside → Type 0
-MovesOnce op name result old new = (session : ℕ) (c : Command) (before : AllDoing) → is_long_planned c ≡ true → before session ≡ Operating c op name → AreSteady before old → HappensGoing op (answer_of result) old.told new.told
+MovesOnce op name result old new = (session : ℕ) (c : Command) (before : AllDoing) → is_long c ≡ true → before session ≡ Operating c op name → AreSteady before old → HappensGoing op (answer_of result) old.told new.told
 
 -- What becomes of a command that was going, where its session rested meanwhile.
 abbrev pub GoesFrom : ℕ → Command → Op → StageName → Came → AllDoing → AllDoing → Outside → Outside → Type 0

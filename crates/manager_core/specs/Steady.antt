@@ -8,13 +8,13 @@ use Rattle.cell_world.specs.Sound.{Sound, IsAttachedIn, locals_at}
 use Rattle.cell_world.specs.Marked.{HasNoMark, IsOutOfLog, mark_tables}
 use Rattle.cell_world.specs.Texts.{Text}
 use Rattle.cell_world.specs.declared.operations.Op.{Op}
-use Rattle.cell_world.specs.declared.operations.Extra.TheVariants as extra
 use Rattle.global_tables.specs.Known.{Known}
 use Rattle.plain_model.specs.declared.commands.Command.{Command}
 use Rattle.plain_model.specs.declared.history.Entry.{Entry}
 use Rattle.plain_model.specs.declared.replies.Reply.{Reply}
 use Rattle.plain_model.specs.declared.replies.Reply.TheVariants as reply
 use Rattle.plain_model.specs.JobSteps.{asked_number}
+use Rattle.plain_model.specs.Refusing.{given_token}
 use Rattle.plain_model.specs.Running.{text_of}
 use Rattle.plain_model.specs.Written.{Mode}
 use Rattle.session_laws.specs.Contract.{Seen}
@@ -23,15 +23,16 @@ use Rattle.session_laws.specs.Doing.{AllDoing, Live, live_of, command_of}
 use Rattle.session_laws.specs.Needs.{Needs}
 use Rattle.operation_laws.specs.Leading.{Leads, with_entry}
 use Rattle.operation_laws.specs.Left.{AreLeft}
+use Rattle.operation_laws.specs.Opening.{Opens}
 use Rattle.manager_core.specs.Answering.{IsCopy}
 
 -- the parts that the laws speak of; nobody is connected yet
 abbrev pub seen_with : List Entry → AllDoing → Seen
 seen_with history doing = record { history = history; doing = doing; connections = nobody }
 
--- the operation goes on with no job, and its number isn't 0
-abbrev pub IsPlainOp : Op → Type 0
-IsPlainOp op = (op.extra ≡ extra.None) × (op.number ≡ 0 → ⊥)
+-- the command's token opens what its operation replaces, which goes on with no job, and its number isn't 0
+abbrev pub IsPlainOp : Live → Type 0
+IsPlainOp l = Opens (given_token l.command) l.op × (l.op.number ≡ 0 → ⊥)
 
 -- What holds of the stores with what the sessions do.
 pub record IsSteady (doing : AllDoing) (image : Image) : Type 0 where
@@ -41,8 +42,8 @@ pub record IsSteady (doing : AllDoing) (image : Image) : Type 0 where
   pub stand : AllStand Needs doing image
   pub one : (s t : ℕ) (l m : Live) → live_of (doing s) ≡ Some l → live_of (doing t) ≡ Some m → l.op.number ≡ m.op.number → s ≡ t
   pub one_job : (s t : ℕ) (c d : Command) (number : ℕ) → command_of (doing s) ≡ Some c → command_of (doing t) ≡ Some d → asked_number c ≡ Some number → asked_number d ≡ Some number → s ≡ t
-  -- none of them goes on with a job, and each has a number from 1 on
-  pub plain : (session : ℕ) (l : Live) → live_of (doing session) ≡ Some l → IsPlainOp l.op
+  -- none of them goes on with a job, each token opens what is replaced, and each number is from 1 on
+  pub plain : (session : ℕ) (l : Live) → live_of (doing session) ≡ Some l → IsPlainOp l
   -- what sessions have to settle is committed
   pub left : AreLeft doing image
 

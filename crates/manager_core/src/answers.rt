@@ -6,7 +6,8 @@ ghost use Rattle.cell_world.specs.Outside.{IfContents, IsLater};
 ghost use Rattle.cell_world.specs.Sound.{Sound};
 ghost use Rattle.cell_world.specs.Stores.{Store, IsKeyed, changed};
 ghost use Rattle.global_tables.specs.Known.{known_of};
-ghost use Rattle.map_ops.specs.Planning.{PlansChange, is_planned};
+ghost use Rattle.map_ops.specs.Planning.{PlansChange};
+ghost use Rattle.plain_model.specs.ShortCommands.{is_short};
 ghost use Rattle.plain_model.specs.OnTrail.{logs_put};
 ghost use Rattle.plain_model.specs.Lines.{reply_lines};
 ghost use Rattle.manager_core.specs.Answering.{CommitsChange, AreLines};
@@ -163,7 +164,7 @@ pub fn answer_change<W: World>(
     reach: &Reach,
     change: &Change,
 ) -> Answer
-    requires planned { is_planned command.now ≡ true }
+    requires planned { is_short command.now ≡ true }
     requires no_log { logs_put change.now ≡ [] }
     requires plans { IfContents (W.outside world.old).told (λ (image : Image). Sound image → known.old ≡ known_of (global image) → PlansChange command.now reach.now change.now Reply.Ok image) }
     ensures answers { AnswersNow command.now result.reply known.old known.new (all_doing doings.now) (W.outside world.old) (W.outside world.new) }

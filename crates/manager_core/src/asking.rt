@@ -1,14 +1,15 @@
 //! A command is asked.
-ghost use Rattle.std.specs.Prelude.{◌≡◌, ◌≤◌, Some, None, true, length, IsTrue};
+ghost use Rattle.std.specs.Prelude.{◌≡◌, ◌≤◌, Some, None, Ok, true, length, IsTrue, IfSome, IfOk, IsErrOf};
 ghost use Rattle.cell_world.specs.Images.{Image, global};
-ghost use Rattle.cell_world.specs.Outside.{IfContents, IsLater};
+ghost use Rattle.cell_world.specs.Outside.{IfContents, IsLater, StoreRoseBy};
 ghost use Rattle.cell_world.specs.Sound.{Sound};
 ghost use Rattle.cell_world.specs.Spelled.{is_spelled};
 ghost use Rattle.global_tables.specs.Known.{Known, known_of};
-ghost use Rattle.map_ops.specs.Planning.{PlansLong, is_asked, is_long_planned};
+ghost use Rattle.map_ops.specs.Planning.{PlansLong, is_asked, is_long};
 ghost use Rattle.session_laws.specs.Doing as laws;
-ghost use Rattle.manager_core.specs.Answering.{AreLines};
+ghost use Rattle.manager_core.specs.Answering.{AreLines, IsCopy};
 ghost use Rattle.manager_core.specs.Coming.{ComesOfAsking, HasLines, reply_of};
+ghost use Rattle.manager_core.specs.Concluding.{ComesWithTables};
 ghost use Rattle.manager_core.specs.Doings.{all_doing};
 ghost use Rattle.manager_core.specs.Events.{IsResting};
 
@@ -24,7 +25,7 @@ use cell_world::operations::Op;
 use cell_world::outside::World;
 use global_tables::faults::StepFault;
 use global_tables::known::KnownTables;
-use map_ops::planning::plan;
+use mapping_plans::plans::plan;
 use plain_model::commands::Command;
 use plain_model::history::Journal;
 use plain_model::plans::{Plan, PlanStop};
@@ -45,7 +46,7 @@ fn begin_ready<W: World>(
 ) -> Came
     requires session { (1 ≤ session) × (session ≤ length doings.old) }
     requires rests { all_doing doings.old session ≡ laws.Resting None }
-    requires long { is_long_planned command ≡ true }
+    requires long { is_long command ≡ true }
     requires spelled { IsTrue (is_spelled (Cell.Log op.now)) }
     requires fault { fault.reply ≡ Reply.Fault }
     requires lines { AreLines tag fault.reply fault.lines }
@@ -89,7 +90,7 @@ fn begin_long<W: World>(
 ) -> Came
     requires session { (1 ≤ session) × (session ≤ length doings.old) }
     requires rests { all_doing doings.old session ≡ laws.Resting None }
-    requires long { is_long_planned command ≡ true }
+    requires long { is_long command ≡ true }
     requires spelled { IsTrue (is_spelled (Cell.Log op.now)) }
     ensures comes { (known : Known) → IfContents (W.outside world.old).told (λ (image : Image). Sound image → known ≡ known_of (global image) → PlansLong command op.now image) →
         ComesOfAsking session command result known known (all_doing doings.old) (all_doing doings.new) (W.outside world.old) (W.outside world.new) }
@@ -144,12 +145,63 @@ fn ask_planned<W: World>(
     }
 }
 
+/// The copy of the tables that the core has; where it has none, what is read.
+///
+/// `Store`: the store refused. Nothing changes but counts.
+fn kept_or_read<W: World>(
+    alloc: Global,
+    world: &mut W,
+    known: Option<KnownTables>,
+) -> Result<KnownTables, StepFault>
+    ensures copy { IfSome known (λ kept. IsCopy kept (W.outside world.old).told) → IfOk result (λ copy. IsCopy copy (W.outside world.old).told) }
+    ensures kept { IfSome known (λ kept. result ≡ Ok kept) }
+    ensures told { (W.outside world.new).told ≡ (W.outside world.old).told }
+    ensures later { IsLater (W.outside world.old) (W.outside world.new) }
+    ensures cause { IsErrOf result StepFault.Store → StoreRoseBy 1 (W.outside world.old) (W.outside world.new) }
+{
+    match known {
+        Some(kept) => Ok(kept),
+        None => KnownTables::read(alloc, world),
+    }
+}
+
+/// What a command comes to with the copy of the tables that the core has. Where it has none they are read, and where that
+/// fails the command is answered `fault`, or `memory`.
+fn ask_with_tables<W: World>(
+    alloc: Global,
+    world: &mut W,
+    known: &mut Option<KnownTables>,
+    doings: &mut Doings,
+    session: u32,
+    tag: Option<u32>,
+    command: Command,
+) -> Came
+    requires session { (1 ≤ session) × (session ≤ length doings.old) }
+    requires rests { all_doing doings.old session ≡ laws.Resting None }
+    requires asked { is_asked command ≡ true }
+    ensures comes { ComesWithTables session command result known.old known.new (all_doing doings.old) (all_doing doings.new) (W.outside world.old) (W.outside world.new) }
+    ensures lines { HasLines tag result }
+    ensures sessions { length doings.new ≡ length doings.old }
+    ensures later { IsLater (W.outside world.old) (W.outside world.new) }
+{
+    match kept_or_read(alloc, world, known.take()) {
+        Ok(copy) => {
+            let mut copy = copy;
+            let came = ask_planned(alloc, world, &mut copy, doings, session, tag, command);
+            *known = Some(copy);
+            came
+        }
+        Err(StepFault::Store) => Came::Ended(command, answer_with(alloc, tag, Reply::Fault), 0),
+        Err(StepFault::Memory) => Came::Ended(command, no_memory(), 0),
+    }
+}
+
 /// What a command comes to where there is room for its entry and for one more; else `memory`, for whose entry there is room at all times.
 fn ask_in_room<W: World>(
     alloc: Global,
     world: &mut W,
     journal: &mut Journal,
-    known: &mut KnownTables,
+    known: &mut Option<KnownTables>,
     doings: &mut Doings,
     session: u32,
     tag: Option<u32>,
@@ -159,7 +211,7 @@ fn ask_in_room<W: World>(
     requires rests { all_doing doings.old session ≡ laws.Resting None }
     requires asked { is_asked command ≡ true }
     requires room { 1 ≤ journal.old.room }
-    ensures comes { ComesOfAsking session command result known.old known.new (all_doing doings.old) (all_doing doings.new) (W.outside world.old) (W.outside world.new) }
+    ensures comes { ComesWithTables session command result known.old known.new (all_doing doings.old) (all_doing doings.new) (W.outside world.old) (W.outside world.new) }
     ensures lines { HasLines tag result }
     ensures entries { journal.new.entries ≡ journal.old.entries }
     ensures room { (1 ≤ journal.new.room) × ((reply_of result ≡ Some Reply.Memory → ⊥) → 2 ≤ journal.new.room) }
@@ -167,7 +219,7 @@ fn ask_in_room<W: World>(
     ensures later { IsLater (W.outside world.old) (W.outside world.new) }
 {
     match journal.make_room(2) {
-        Ok(()) => ask_planned(alloc, world, known, doings, session, tag, command),
+        Ok(()) => ask_with_tables(alloc, world, known, doings, session, tag, command),
         Err(Memory) => Came::Ended(command, no_memory(), 0),
     }
 }
@@ -177,12 +229,13 @@ fn ask_in_room<W: World>(
 /// What the session left is settled first. A short command is answered; where the plan reaches something, a live operation of another
 /// session may be in the way, and abandoned ones that are in the way are undone. The operation of a long one begins.
 ///
-/// Room for the entry and for one more, and for the lines of both outcomes, is made before the command's own transaction.
+/// Room for the entry and for one more, and for the lines of both outcomes, is made before the command's own transaction. The
+/// tables are read before the plan, where there is no copy.
 pub fn ask_command<W: World>(
     alloc: Global,
     world: &mut W,
     journal: &mut Journal,
-    known: &mut KnownTables,
+    known: &mut Option<KnownTables>,
     doings: &mut Doings,
     session: u32,
     tag: Option<u32>,
@@ -192,7 +245,7 @@ pub fn ask_command<W: World>(
     requires rests { IsResting (all_doing doings.old session) }
     requires asked { is_asked command ≡ true }
     requires room { 1 ≤ journal.old.room }
-    ensures comes { ComesOfAsking session command result known.old known.new (all_doing doings.old) (all_doing doings.new) (W.outside world.old) (W.outside world.new) }
+    ensures comes { ComesWithTables session command result known.old known.new (all_doing doings.old) (all_doing doings.new) (W.outside world.old) (W.outside world.new) }
     ensures lines { HasLines tag result }
     ensures entries { journal.new.entries ≡ journal.old.entries }
     ensures room { (1 ≤ journal.new.room) × ((reply_of result ≡ Some Reply.Memory → ⊥) → 2 ≤ journal.new.room) }

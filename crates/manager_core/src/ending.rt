@@ -15,7 +15,7 @@ use std::alloc::Global;
 
 /// Settles what each session has left, at the end of a core, and says what became of it.
 pub fn settle_rest<W: World>(alloc: Global, world: &mut W, doings: &mut Doings) -> Tail
-    ensures finishes { (history : List Entry) (known : Known) (stop : Option StopCause) → Finishes (parts (W.outside world.old) history doings.old known stop) (W.outside world.new) result }
+    ensures finishes { (history : List Entry) (known : Option Known) (stop : Option StopCause) → Finishes (parts (W.outside world.old) history doings.old known stop) (W.outside world.new) result }
     ensures later { IsLater (W.outside world.old) (W.outside world.new) }
 {
     match settle_all(alloc, world, doings, doings.sessions()) {

@@ -1,7 +1,7 @@
 //! A command that is going goes on.
 ghost use Rattle.std.specs.Prelude.{◌≡◌, ◌≤◌, ℕ, true, Option, Some, IfOk, IsOk, length};
 ghost use Rattle.cell_world.specs.Outside.{IsLater};
-ghost use Rattle.map_ops.specs.Planning.{is_long_planned};
+ghost use Rattle.map_ops.specs.Planning.{is_long};
 ghost use Rattle.op_steps.specs.Stages.{name_of};
 ghost use Rattle.operation_laws.specs.Forward.{IsForward};
 ghost use Rattle.plain_model.specs.Lines.{reply_lines};
@@ -71,7 +71,7 @@ fn go_on<W: World>(
     stage: Stage,
 ) -> Came
     requires session { (1 ≤ session) × (session ≤ length doings.old) }
-    requires long { is_long_planned command ≡ true }
+    requires long { is_long command ≡ true }
     requires forward { IsForward (name_of stage) }
     ensures comes { GoesFrom session command op (name_of stage) result (all_doing doings.old) (all_doing doings.new) (W.outside world.old) (W.outside world.new) }
     ensures lines { (tag : Option ℕ) → lines.done ≡ reply_lines tag Reply.Ok → lines.fault ≡ reply_lines tag Reply.Fault → HasLines tag result }

@@ -6,7 +6,7 @@ ghost use Rattle.plain_model.specs.Lines.{reply_lines, tag_of};
 ghost use Rattle.plain_model.specs.declared.replies.Reply.{Reply};
 ghost use Rattle.manager_core.specs.Answering.{AreLines, WritesText};
 ghost use Rattle.manager_core.specs.Coming.{HasLines, reply_of};
-ghost use Rattle.manager_core.specs.Concluding.{ComesOf, Waiting};
+ghost use Rattle.manager_core.specs.Concluding.{ComesOf, Waiting, known_after};
 ghost use Rattle.manager_core.specs.Cores.{HasRoom, Parts, parts};
 ghost use Rattle.manager_core.specs.Doings.{all_doing};
 ghost use Rattle.manager_core.specs.Events.{MayCome, Comes, ComesAfter, StaysReady, stop_after};
@@ -42,8 +42,6 @@ pub enum StopCause {
     Sink,
     /// An entry is `memory`, or a writing found no memory.
     Memory,
-    /// An entry is `fault`. Until the manager goes on after a failed call, that ends the run.
-    Store,
 }
 
 /// What became of an event.
@@ -65,8 +63,9 @@ pub struct Core<W: World> {
     pub world: W,
     /// The commands so far with their replies, in order; and until the core stops room for one entry more.
     pub journal: Journal,
-    /// What the global cells say of maps, shards, tables, sites and jobs, until the core stops.
-    pub known: KnownTables,
+    /// What the global cells say of maps, shards, tables, sites and jobs, until the core stops. None after a `fault`: then
+    /// a call may have failed that changes them or not, and they are read again before they are next used.
+    pub known: Option<KnownTables>,
     /// What each session does. Sessions are numbered from 1, at most 16.
     pub doings: Doings,
     /// Why no more events are taken.
@@ -89,8 +88,16 @@ fn stop_after(reply: &Reply) -> Option<StopCause>
 {
     match reply {
         Reply::Memory => Some(StopCause::Memory),
-        Reply::Fault => Some(StopCause::Store),
         _ => None,
+    }
+}
+
+/// After `fault` the copy of the tables is let go: a call may have failed that changes them or not.
+fn forget_after(reply: &Reply, known: &mut Option<KnownTables>)
+    ensures { known.new ≡ known_after reply.now known.old }
+{
+    if let Reply::Fault = reply {
+        *known = None;
     }
 }
 
@@ -119,6 +126,9 @@ impl<W: World> Core<W> {
     /// and is going. `Go`: the operation of the command that is going makes its next transaction. A command that ends adds one
     /// entry to the history, and its reply is written in one write, each line with the session's number and a space in front
     /// where `tagged`.
+    ///
+    /// An event that ends with `fault` doesn't stop the core: its session rests, its operation is abandoned, if it had one, and
+    /// the tables are read again before they are next used.
     /// `Stopped(Sink)`, `Stopped(Memory)`: the entry stands, and its lines are not all written; nothing is done from then on.
     pub fn event(&mut self, alloc: Global, session: u32, event: Event, tagged: bool) -> Outcome
         requires session { (1 ≤ session) × (session ≤ length self.old.doings) }
@@ -182,7 +192,8 @@ impl<W: World> Core<W> {
         }
     }
 
-    /// A command has ended: its entry is made, and its lines are written in one write.
+    /// A command has ended: its entry is made, and its lines are written in one write. After `fault` the copy of the tables is
+    /// let go.
     ///
     /// `Stopped(Sink)`, `Stopped(Memory)`: the entry stands, and its lines are not all written.
     fn conclude(
@@ -210,6 +221,7 @@ impl<W: World> Core<W> {
         let moment = self.world.moment();
         let sort = answer.reply.sort();
         self.stop = stop_after(&answer.reply);
+        forget_after(&answer.reply, &mut self.known);
         self.journal.push(Entry {
             session,
             command,

@@ -1,5 +1,5 @@
 //! How a core begins, what it tells of itself, and how it ends.
-ghost use Rattle.std.specs.Prelude.{◌≡◌, ◌⊎◌, ◌≤◌, ◌&&◌, ◌==◌, [], None, length, filter, is_some, false, IfOk, IfErr, IsErrOf, IsOk};
+ghost use Rattle.std.specs.Prelude.{◌≡◌, ◌⊎◌, ◌≤◌, ◌&&◌, ◌==◌, [], None, length, filter, is_some, false, IfOk, IfErr, IsErrOf, IsOk, IsSomeAnd};
 ghost use Rattle.cell_world.specs.Outside.{IfContents, IsLater, StoreRoseBy};
 ghost use Rattle.plain_model.specs.Headline.{answered_by};
 ghost use Rattle.plain_model.specs.declared.history.Entry.{Entry};
@@ -117,7 +117,7 @@ impl<W: World> Core<W> {
         ensures sessions { IfOk result (λ core. length core.doings ≡ sessions) }
         ensures room { IfOk result (λ core. HasRoom core.journal core.stop) }
         // the copy of the tables is what the global cells say, and all locations that they name are known
-        ensures copy { IfOk result (λ core. IsCopy core.known (W.outside core.world).told) }
+        ensures copy { IfOk result (λ core. IsSomeAnd core.known (λ known. IsCopy known (W.outside core.world).told)) }
         ensures all_known { IfOk result (λ core. KnowsAll (W.outside world)) }
         // it rests, the stores stand for the same as before, and no operation is logged
         ensures opens { IfOk result (λ core. Opens (W.outside world).told (W.outside core.world).told) }
@@ -141,7 +141,7 @@ impl<W: World> Core<W> {
             (Ok(()), Ok(doings)) => Ok(Core {
                 world,
                 journal,
-                known,
+                known: Some(known),
                 doings,
                 stop: None,
             }),

@@ -12,15 +12,16 @@ use Rattle.session_laws.specs.Core.{Stands}
 use Rattle.session_laws.specs.Doing.{Live}
 use Rattle.session_laws.specs.Needs.{Needs}
 use Rattle.operation_laws.specs.Entries.{IsOneOperation, FollowsAtCommit}
-use Rattle.operation_laws.specs.Opening.{Opens, token_of, ends_with}
+use Rattle.plain_model.specs.Refusing.{given_token}
+use Rattle.operation_laws.specs.Opening.{Opens, ends_with}
 use Rattle.operation_laws.proofs.AddAtCommit.{add_at_commit, addpoint_at_commit}
 use Rattle.operation_laws.proofs.MappingAtCommit.{offline_at_commit, online_at_commit, split_at_commit, merge_at_commit, delete_at_commit, move_at_commit}
 
-pub operation_at_commit : (session : ℕ) (l : Live) (image : Image) → Sound image → Stands Needs session l image → IsOneOperation l.command → Opens (token_of l.command) l.op → (connections : Connections)
+pub operation_at_commit : (session : ℕ) (l : Live) (image : Image) → Sound image → Stands Needs session l image → IsOneOperation l.command → Opens (given_token l.command) l.op → (connections : Connections)
     → FollowsAtCommit session l.command image l.op connections (ends_with (with_connections (meaning image) connections) l.command)
 operation_at_commit session l image sound stands one opens connections = by l.command one opens (stands.exchange connections)
   where
-    by : (c : Command) → IsOneOperation c → Opens (token_of c) l.op → (asked_number c ≡ None → IsOwnOf (with_connections (meaning image) connections) c None image l.op)
+    by : (c : Command) → IsOneOperation c → Opens (given_token c) l.op → (asked_number c ≡ None → IsOwnOf (with_connections (meaning image) connections) c None image l.op)
         → FollowsAtCommit session c image l.op connections (ends_with (with_connections (meaning image) connections) c)
     by (command.Offline name key token) one opens own = offline_at_commit image sound l.op stands.logged name key connections session token (own refl) opens
     by (command.Add name low high location) one opens own = add_at_commit image sound l.op stands.logged name low high location connections (own refl) session

@@ -32,7 +32,7 @@ use Rattle.image_laws.proofs.LocalImages.{local_meaning}
 use Rattle.image_laws.proofs.OthersStay.{done_swept, done_born, done_settled, unborn_born, unborn_settled}
 use Rattle.image_laws.proofs.SoundParts.{are_logged, births_apart}
 use Rattle.image_laws.proofs.StaysLawful.{AreApart}
-use Rattle.image_laws.proofs.StepLaws.{unborn_swept}
+use Rattle.image_laws.proofs.StepLaws.{unborn_swept, other_mark, plain_not_old}
 use Rattle.image_laws.proofs.UnderWayLaws.{under_way_local, under_way_global}
 use Rattle.op_steps.specs.Passing.{changed_at}
 use Rattle.op_steps.specs.Undoing.{UndoStep, AtSite, LogRow}
@@ -139,7 +139,7 @@ module _ (session : ℕ) (l : Live) (image : Image) (sound : Sound image) (stand
   pub stands_advance : (q : Op) → l.op.number ≢ q.number → (place : Place) (change : List Edit) → AdvanceStep q image place change → Stands Needs session l (changed_at image place change)
   stands_advance q differ place change (Stepping s) = subst (Stands Needs session l) (sym s.is) (stands_local s.location s.last s.site.here
       (λ done. done_born l.op q s.location s.stepped.middle s.last differ (births_apart image sound l.op q stands.logged s.logged differ) s.stepped.born (swept_done q s.logged differ s.location s.site.here (Old q.number) s.stepped.middle s.stepped.swept done))
-      (λ unborn. unborn_born l.op.number q.number s.location (listed q.news) s.stepped.middle s.last differ s.stepped.born (unborn_swept (global image).log q (Old q.number) (locals_at image s.location) s.stepped.middle l.op.number s.stepped.swept unborn)))
+      (λ unborn. unborn_born l.op.number q.number s.location (listed q.news) s.stepped.middle s.last differ s.stepped.born (unborn_swept (global image).log q (Old q.number) (locals_at image s.location) s.stepped.middle l.op.number (other_mark l.op.number q.number differ) s.stepped.swept unborn)))
   stands_advance q differ place change (Committing c) = subst (Stands Needs session l) (sym c.is)
       (stands_exchange q.map q.hull (listed q.olds) (listed q.news) ((are_logged image sound).fits q c.logged) (apart_logged q c.logged differ) (global (committed_image image q)) (removed q differ) refl refl refl)
   stands_advance q differ place change (Settling s) = subst (Stands Needs session l) (sym s.is) (stands_local s.location s.last s.here
@@ -149,7 +149,7 @@ module _ (session : ℕ) (l : Live) (image : Image) (sound : Sound image) (stand
   pub stands_undo : (q : Op) → l.op.number ≢ q.number → (place : Place) (change : List Edit) → UndoStep q image place change → Stands Needs session l (changed_at image place change)
   stands_undo q differ place change (AtSite u) = subst (Stands Needs session l) (sym u.is) (stands_local u.location u.last u.site.here
       (λ done. swept_done q u.logged differ u.location u.site.here Plain u.last u.swept done)
-      (λ unborn. unborn_swept (global image).log q Plain (locals_at image u.location) u.last l.op.number u.swept unborn))
+      (λ unborn. unborn_swept (global image).log q Plain (locals_at image u.location) u.last l.op.number (plain_not_old l.op.number) u.swept unborn))
   stands_undo q differ place change (LogRow d) = subst (Stands Needs session l) (sym d.is) (stands_same (global (without_log_row image q)) (removed q differ) refl refl)
 
   -- the log row of another operation is put

@@ -12,16 +12,6 @@ use Rattle.plain_model.specs.declared.commands.Command.TheVariants as command
 use Rattle.plain_model.specs.Refusing.{mapping_of}
 use Rattle.plain_model.specs.Steps.{ended_under}
 
--- the token that a command on a mapping gives
-abbrev pub token_of : Command → Option Token
-token_of (command.Delete name key token) = token
-token_of (command.Offline name key token) = token
-token_of (command.Online name key token) = token
-token_of (command.Move name key location token) = token
-token_of (command.Split name key token) = token
-token_of (command.Merge name key token) = token
-token_of other = None
-
 -- Said of the command and its operation alone, so no event changes it.
 pub record Opens (token : Option Token) (op : Op) : Type 0 where
   -- each old mapping has no token, or this one

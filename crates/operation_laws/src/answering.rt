@@ -19,7 +19,7 @@ ghost use Rattle.plain_model.specs.declared.replies.Refusal.TheVariants as refus
 ghost use Rattle.plain_model.specs.declared.history.Entry.{Entry};
 ghost use Rattle.plain_model.specs.JobSteps.{asked_number};
 ghost use Rattle.plain_model.specs.OnTrail.{reach_of_command};
-ghost use Rattle.plain_model.specs.Refusing.{refusal, mapping_of};
+ghost use Rattle.plain_model.specs.Refusing.{given_token, refusal, mapping_of};
 ghost use Rattle.plain_model.specs.Steps.{ended_under};
 ghost use Rattle.plain_model.specs.Timelines.{Timeline, Past, Entered, image_of, happened_of};
 ghost use Rattle.plain_model.specs.Written.{Mode};
@@ -38,7 +38,7 @@ ghost use Rattle.operation_laws.specs.Courses.{happened_on};
 ghost use Rattle.operation_laws.specs.Forward.{IsForward};
 ghost use Rattle.operation_laws.specs.LiveNumbers.{AreTheLive};
 ghost use Rattle.operation_laws.specs.Planned.{IsOpFor};
-ghost use Rattle.operation_laws.specs.Opening.{Opens, token_of, ends_with};
+ghost use Rattle.operation_laws.specs.Opening.{Opens, ends_with};
 ghost use Rattle.operation_laws.specs.Entries.{EndsNone, IsOneOperation, IsAdding, Names, FollowsAtCommit};
 
 /// What `add` and `addpoint` bring to the commit of their operation, from what the core carries of it: they aren't refused then either, and their plain step is the commit.
@@ -48,7 +48,7 @@ pub fn adding_follows_at_its_commit()
 
 /// So each command that is one operation, where its token opens the mappings that are replaced, and the operation is of no job: both are said of the command and its operation alone.
 pub fn operation_follows_at_its_commit()
-    ensures { (session : ℕ) (l : Live) (image : Image) → Sound image → Stands Needs session l image → IsOneOperation l.command → Opens (token_of l.command) l.op → (connections : Connections) →
+    ensures { (session : ℕ) (l : Live) (image : Image) → Sound image → Stands Needs session l image → IsOneOperation l.command → Opens (given_token l.command) l.op → (connections : Connections) →
         FollowsAtCommit session l.command image l.op connections (ends_with (with_connections (meaning image) connections) l.command) }
 {}
 

@@ -13,7 +13,7 @@ use Rattle.plain_model.specs.declared.finish.RunStatus.{RunStatus}
 use Rattle.plain_model.specs.declared.finish.RunStatus.TheVariants as status
 use Rattle.plain_model.specs.declared.history.Entry.{Entry}
 use Rattle.plain_model.specs.Written.{EachReply}
-use Rattle.plain_model.specs.Headline.{is_done, Causes, StatusCause, ComesByInput, ComesByOpening, TellsUnknown, StatusHasCause, EachOnceInOrder, faults, did_nothing}
+use Rattle.plain_model.specs.Headline.{has_stopped, is_done, Causes, StatusCause, ComesByInput, ComesByOpening, TellsUnknown, StatusHasCause, EachOnceInOrder, faults, did_nothing}
 use Rattle.plain_model.proofs.RunsAreHeadlines.{ends_on_trail, ends_by_states, is_headline, is_headline_alone}
 use Rattle.session_laws.specs.Contract.{at_rest, course_of}
 use Rattle.session_laws.proofs.ContractLaws.{core_has_gone_on, core_has_gone_to}
@@ -28,7 +28,7 @@ use Rattle.script_lang.specs.declared.command_line.Words.{Words}
 use Rattle.script_lang.specs.CommandLine.{options_built, SaysWords, IsAccepted, IsBadAt}
 use Rattle.script_lang.specs.Scripts.{built, IsScript, IsFirstFaulty}
 use Rattle.script_lang.specs.Sources.{script_limit, IfTold, HasMore, TookAtMost}
-use Rattle.script_shell.specs.Promises.{Runs, RunsScript, IsRead, Completes, for_now, causes_of, no_causes, has_begun, was_read, is_of_commands, is_of_reading, is_complete}
+use Rattle.script_shell.specs.Promises.{Runs, RunsScript, IsRead, Completes, causes_of, no_causes, has_begun, was_read, is_of_commands, is_of_reading, is_complete}
 use Rattle.script_shell.specs.Reading.{IsReadScript, StopsReading, unopened}
 use Rattle.script_shell.proofs.HistoryLaws.{in_order}
 use Rattle.script_lang.proofs.WholeScripts.{script_is_whole, one_fault}
@@ -153,15 +153,15 @@ rose_before a b c up rose = omega (arith, rose, up)
 
 -- ---- nothing was asked
 
-served_nothing : (ending : RunStatus) → EachOnceInOrder for_now [] [] ending
-served_nothing ending = record { in_order = in_order [] [] [] refl [] tt (for_now.stops ending); all = λ is session. refl; all_after_fault = λ goes failed fault session. refl }
+served_nothing : (ending : RunStatus) → EachOnceInOrder [] [] ending
+served_nothing ending = record { in_order = in_order [] [] [] refl [] tt (has_stopped ending); all = λ is session. refl; all_after_fault = λ failed fault session. refl }
 
 -- a script of which nothing was asked
-served_none : (script : List Asked) (ending : RunStatus) → is_done ending ≡ false → EachOnceInOrder for_now script [] ending
+served_none : (script : List Asked) (ending : RunStatus) → is_done ending ≡ false → EachOnceInOrder script [] ending
 served_none script ending not_done = record {
-  in_order = in_order script [] script refl [] tt (for_now.stops ending);
+  in_order = in_order script [] script refl [] tt (has_stopped ending);
   all = λ is. let both : true ≡ false = sym is ∙ not_done in absurd cc;
-  all_after_fault = λ goes failed some. absurd (omega (arith, some));
+  all_after_fault = λ failed some. absurd (omega (arith, some));
 }
 
 -- the stores name no unknown location
@@ -178,18 +178,18 @@ module _ (words : List Text) (left after : Option Text) (faults_before faults_af
   abbrev causes : Causes
   causes = causes_of words bytes faults_before faults_after
 
-  status_nothing : StatusCause for_now causes old new [] ending → ComesByInput causes ending → ComesByOpening old ending → StatusHasCause for_now causes old new [] ending
+  status_nothing : StatusCause causes old new [] ending → ComesByInput causes ending → ComesByOpening old ending → StatusHasCause causes old new [] ending
   status_nothing cause input opening = record {
     cause = cause;
     by_input = input;
-    by_opening = λ is. opening;
-    unknown = λ is location told. (refl, ⊎_elim (λ same. same) (λ all. absurd (none_unknown old all location told)) untouched_or);
+    by_opening = opening;
+    unknown = λ location told. (refl, ⊎_elim (λ same. same) (λ all. absurd (none_unknown old all location told)) untouched_or);
     kept = record { few_faults = store_rose_none old new later.faults; ends_with_memory = tt; nothing = λ is. refl; unchanged = unchanged };
   }
 
   module _ (given : IfTold left bytes) (read : IsRead bytes script [] ending) (untouched : (place : ℕ) → ending ≡ status.BadWords place → (after ≡ left) × (faults_after ≡ faults_before)) (in_time : ending ≡ status.ReadFault → TookAtMost script_limit left after)
-      (drained : was_read ending ≡ true → after ≡ option_map (λ b. []) left) (source : faults_before ≤ faults_after) (handed_back : is_of_reading ending ≡ true → new ≡ old) (not_done : is_done ending ≡ false) (served : EachOnceInOrder for_now script [] ending)
-      (cause : StatusCause for_now causes old new [] ending) (input : ComesByInput causes ending) (opening : ComesByOpening old ending) where
+      (drained : was_read ending ≡ true → after ≡ option_map (λ b. []) left) (source : faults_before ≤ faults_after) (handed_back : is_of_reading ending ≡ true → new ≡ old) (not_done : is_done ending ≡ false) (served : EachOnceInOrder script [] ending)
+      (cause : StatusCause causes old new [] ending) (input : ComesByInput causes ending) (opening : ComesByOpening old ending) where
     pub runs_nothing : RunsScript words left after faults_before faults_after old new [] ending
     runs_nothing = record {
       bytes = bytes;
@@ -202,18 +202,17 @@ module _ (words : List Text) (left after : Option Text) (faults_before faults_af
       source = source;
       handed_back = handed_back;
       later = later;
-      headline = λ before told sound. is_headline for_now false causes script before old new [] ending
-          (ends_on_trail false (for_now.stops ending) script new.told (course_of (at_rest [])) [] ending before
+      headline = λ before told sound. is_headline false causes script before old new [] ending
+          (ends_on_trail false (has_stopped ending) script new.told (course_of (at_rest [])) [] ending before
           (core_has_gone_on (EachReply false) (end_of_trail before) (image_at before (end_of_trail before)) before new.told (at_rest []) [] (opens.on_trail (EachReply false) before told sound))
           (λ session. record { none = λ goes. refl; next = tt }) (inl refl))
           served (status_nothing cause input opening);
-      headline_alone = λ first told sound. is_headline_alone for_now causes script first old new [] ending
-          (ends_by_states (for_now.stops ending) script first new.told (course_of (at_rest [])) (core_has_gone_to first new.told (at_rest []) (opens.by_states first told sound)) (λ session. record { none = λ goes. refl; next = tt }))
+      headline_alone = λ first told sound. is_headline_alone causes script first old new [] ending
+          (ends_by_states (has_stopped ending) script first new.told (course_of (at_rest [])) (core_has_gone_to first new.told (at_rest []) (opens.by_states first told sound)) (λ session. record { none = λ goes. refl; next = tt }))
           served (status_nothing cause input opening);
       served = served;
       status = status_nothing cause input opening;
       plain = λ done plain. let both : true ≡ false = sym done ∙ not_done in absurd cc;
-      ends_with_fault = tt;
       numbered = tt;
       named = λ sound. contents_all new.told _ (λ image. tt);
       settled = λ done calm sound. tt;
@@ -267,22 +266,22 @@ module _ (words : List Text) (left after : Option Text) (faults_before faults_af
     where
       by : (fault : StartFault) → FaultHasCause old new fault → RunsScript words left after faults_before faults_after old new [] (unopened fault)
       by start.Store rose = runs_nothing words left after faults_before faults_after old new status.StoreFault read.bytes script opens untouched_or (λ is. absurd cc) later read.given read.grammar (λ place at. absurd cc) (λ at. absurd cc) (λ is. read.drained) read.source (λ is. absurd cc) refl
-          (served_none script status.StoreFault refl) (rose, inr (refl, refl), refl) (by_input status.StoreFault) (λ location told. inr refl)
+          (served_none script status.StoreFault refl) (rose, inr refl, refl) (by_input status.StoreFault) (λ location told. inr refl)
       by start.Memory caused = runs_nothing words left after faults_before faults_after old new status.Memory read.bytes script opens untouched_or (λ is. absurd cc) later read.given (inl read.grammar) (λ place at. absurd cc) (λ at. absurd cc) (λ is. absurd cc) read.source (λ is. absurd cc) refl
           (served_none script status.Memory refl) tt (by_input status.Memory) (λ location told. inr refl)
       by (start.UnknownLocation location) caused = runs_nothing words left after faults_before faults_after old new (status.UnknownLocation location) read.bytes script opens untouched_or (λ is. caused.2) later read.given read.grammar (λ place at. absurd cc) (λ at. absurd cc)
-          (λ is. read.drained) read.source (λ is. absurd cc) refl (served_none script (status.UnknownLocation location) refl) (refl, caused.0, caused.1) (by_input (status.UnknownLocation location))
+          (λ is. read.drained) read.source (λ is. absurd cc) refl (served_none script (status.UnknownLocation location) refl) (caused.0, caused.1) (by_input (status.UnknownLocation location))
           (λ other told. inl (ap status.UnknownLocation (one_unknown old location other caused.1 told)))
 
   -- ---- the commands were run
 
   module _ (old : Outside) (core : Parts) (new : Outside) (history : List Entry) (ending : RunStatus) (opens : Opens old.told core.outside.told) (ready : IfContents old.told Sound → IsReady core) (later : IsLater old core.outside) (known : KnowsAll old)
-      (runs : Runs script core new history ending) (cause : StatusCause for_now no_causes core.outside new history ending) (of_commands : is_of_commands ending ≡ true) where
+      (runs : Runs script core new history ending) (cause : StatusCause no_causes core.outside new history ending) (of_commands : is_of_commands ending ≡ true) where
     -- a status that comes of the commands has its cause, whatever words and input say
-    comes : StatusCause for_now its_causes old new history ending × (did_nothing ending ≡ false)
+    comes : StatusCause its_causes old new history ending × (did_nothing ending ≡ false)
     comes = by ending of_commands cause
       where
-        by : (ending : RunStatus) → is_of_commands ending ≡ true → StatusCause for_now no_causes core.outside new history ending → StatusCause for_now its_causes old new history ending × (did_nothing ending ≡ false)
+        by : (ending : RunStatus) → is_of_commands ending ≡ true → StatusCause no_causes core.outside new history ending → StatusCause its_causes old new history ending × (did_nothing ending ≡ false)
         by status.Done of cause = (cause, refl)
         by status.Refused of cause = (cause, refl)
         by (status.BadWords place) of cause = absurd cause
@@ -294,12 +293,12 @@ module _ (words : List Text) (left after : Option Text) (faults_before faults_af
         by status.TooLong of cause = absurd cause
         by (status.UnknownLocation location) of cause = absurd cc
 
-    caused : StatusHasCause for_now its_causes old new history ending
+    caused : StatusHasCause its_causes old new history ending
     caused = record {
       cause = comes.0;
       by_input = by_input ending;
-      by_opening = λ is location told. absurd (none_unknown old known location told);
-      unknown = λ is location told. absurd (none_unknown old known location told);
+      by_opening = λ location told. absurd (none_unknown old known location told);
+      unknown = λ location told. absurd (none_unknown old known location told);
       kept = record {
         few_faults = rose_by_before (faults history) old core.outside new later runs.kept.few_faults;
         ends_with_memory = runs.kept.ends_with_memory;
@@ -320,13 +319,12 @@ module _ (words : List Text) (left after : Option Text) (faults_before faults_af
       source = read.source;
       handed_back = λ is. absurd (not_both ending of_commands is);
       later = later_then old core.outside new later runs.later;
-      headline = λ before told sound. is_headline for_now false its_causes script before old new history ending
+      headline = λ before told sound. is_headline false its_causes script before old new history ending
           (runs.on_trail before (opens.on_trail (EachReply false) before told sound) (ready (on_its_trail old.told Sound before told sound))) runs.served caused;
-      headline_alone = λ first told sound. is_headline_alone for_now its_causes script first old new history ending (runs.by_states first (opens.by_states first told sound) (ready (in_its_contents old.told Sound first told sound))) runs.served caused;
+      headline_alone = λ first told sound. is_headline_alone its_causes script first old new history ending (runs.by_states first (opens.by_states first told sound) (ready (in_its_contents old.told Sound first told sound))) runs.served caused;
       served = runs.served;
       status = caused;
       plain = λ done plain. runs_plainly script (script_is_asked read.bytes script read.grammar) plain core new history old.told opens ready ending runs done cause;
-      ends_with_fault = runs.ends_with_fault;
       numbered = runs.numbered;
       named = λ sound. runs.named (ready sound);
       settled = λ done calm sound. runs.settled done (λ rose. calm (rose_by_before 1 old core.outside new later rose)) (ready sound);
@@ -353,7 +351,7 @@ completes words left after faults_before faults_after old new history ending run
     same : runs.bytes ≡ bytes
     same = sym (let given : IfTold (Some bytes) runs.bytes = subst (λ o. IfTold o runs.bytes) told runs.given in given)
 
-    by : (ending : RunStatus) → StatusCause for_now (causes_of words runs.bytes faults_before faults_after) old new history ending → is_complete ending ≡ true
+    by : (ending : RunStatus) → StatusCause (causes_of words runs.bytes faults_before faults_after) old new history ending → is_complete ending ≡ true
     by status.Done cause = refl
     by status.Refused cause = refl
     by (status.BadWords place) cause = absurd (accepted_is_not_bad (IsAccepted Ctl options_built) words place cause accepted)

@@ -1,9 +1,8 @@
 -- The end of a run: what the commands left is settled, and the promises of the run hold.
-use Rattle.std.proofs.Common.{◌≡◌, ◌⊎◌, inl, inr, ℕ, zero, suc, ◌+◌, ◌≤◌, ◌<◌, Bool, true, false, ◌||◌, length, List, [], ◌++◌, Some, None, refl, sym, ap, ◌∙◌, subst, arith}
+use Rattle.std.proofs.Common.{◌≡◌, ◌⊎◌, inl, inr, ◌<◌, Bool, true, false, List, [], ◌++◌, Some, None, refl, sym, ap, ◌∙◌, subst, arith}
 use Rattle.std.specs.FinMap as map
 use Rattle.std.specs.List.{AllByRecursion}
 use Rattle.std.proofs.lemmas.List.{append-nil}
-use Rattle.cell_world.specs.Counts.{NeverFall, store_count}
 use Rattle.cell_world.specs.Images.{Image, Trail, image_at, end_of_trail}
 use Rattle.cell_world.specs.Marked.{IsNew, mark_tables}
 use Rattle.cell_world.specs.Outside.{Outside, IfContents, IsLater, StoreRoseBy}
@@ -16,7 +15,7 @@ use Rattle.plain_model.specs.declared.finish.RunStatus.{RunStatus}
 use Rattle.plain_model.specs.declared.finish.RunStatus.TheVariants as status
 use Rattle.plain_model.specs.declared.history.Entry.{Entry}
 use Rattle.plain_model.specs.declared.replies.Reply.TheVariants as reply
-use Rattle.plain_model.specs.Headline.{IsLeftGoing, StatusCause, did_nothing, faults, has_stopped, is_done}
+use Rattle.plain_model.specs.Headline.{IsLeftGoing, StatusCause, did_nothing, faults, has_stopped, is_done, is_store_fault}
 use Rattle.plain_model.specs.RunSoFar.{AreLeftGoing, EndsWritten, HoldsOnTrail, HoldsByStates}
 use Rattle.plain_model.specs.Written.{EachReply}
 use Rattle.plain_model.proofs.RunSoFar.{goes_on_then}
@@ -30,24 +29,16 @@ use Rattle.session_laws.proofs.ContractLaws.{core_has_gone_on, core_has_gone_to}
 use Rattle.manager_core.specs.Cores.{Parts, IsReady, Finishes, seen_of}
 use Rattle.manager_core.specs.Events.{IsResting}
 use Rattle.manager_core.specs.Steady.{IsSettledOp, seen_with}
+use Rattle.manager_core.proofs.OpeningLaws.{rose_by_then}
 use Rattle.manager_core.specs.declared.opening.Tail.{Tail}
 use Rattle.manager_core.specs.declared.opening.Tail.TheVariants as tail
-use Rattle.script_shell.specs.Promises.{Runs, AreSettled, IsSettledNumber, for_now, is_of_commands, no_causes}
+use Rattle.script_shell.specs.Promises.{Runs, AreSettled, IsSettledNumber, is_of_commands, no_causes}
 use Rattle.script_shell.specs.Ran.{Ran, IsSettledOrLeft}
 use Rattle.script_shell.specs.Stops.{status_after}
 use Rattle.script_shell.proofs.HistoryLaws.{all_answered, all_weaker, answers_plain, in_order}
 use Rattle.script_shell.proofs.ToldLaws.{still_told}
 
 -- ---- small facts
-
--- a rise by any number, after which no count fell
-sums_up : (n : ℕ) (old new : ℕ → ℕ) → NeverFall old new → store_count n old ≤ store_count n new
-sums_up zero old new up = omega arith
-sums_up (suc n) old new up = omega (arith, sums_up n old new up, up n)
-
-rose_still : (by : ℕ) (a b c : Outside) → IsLater b c → StoreRoseBy by a b → StoreRoseBy by a c
-rose_still by a b c later (inl last) = inl (last.0, last.1, omega (arith, last.2, later.faults last.0))
-rose_still by a b c later (inr more) = inr (omega (arith, more, sums_up (length a.locations + 1) b.faults_at c.faults_at later.faults))
 
 -- nothing is going with one who rests
 not_going : (d : Doing) → IsResting d → going_of d ≡ None
@@ -75,18 +66,24 @@ after_cases status.Refused tail.Memory = inr refl
 after_cases status.StoreFault tail.Memory = inr refl
 after_cases ending last = inl (record { same = refl; enough = λ done short. absurd cc })
 
+-- after status 5 nothing was left
+faulted_goes : (ending : RunStatus) → is_store_fault ending ≡ true → has_stopped ending ≡ false
+faulted_goes status.StoreFault is = refl
+faulted_goes ending is = absurd cc
+
 -- what the run's status says, by that of its commands
 record Follows (ending after : RunStatus) (last : Tail) : Type 0 where
   of_commands : is_of_commands ending ≡ true → is_of_commands after ≡ true
   stopped : has_stopped ending ≡ true → has_stopped after ≡ true
+  goes : has_stopped after ≡ false → has_stopped ending ≡ false
   done : is_done after ≡ true → (is_done ending ≡ true) × (last ≡ tail.Memory → ⊥)
-  caused : (old mid new : Outside) (history : List Entry) → IsLater mid new → IsLater old mid → StatusCause for_now no_causes old mid history ending → StatusCause for_now no_causes old new history after
+  caused : (old mid new : Outside) (history : List Entry) → IsLater mid new → IsLater old mid → StatusCause no_causes old mid history ending → StatusCause no_causes old new history after
 
 follows : (ending : RunStatus) (last : Tail) → Follows ending (status_after ending last) last
 follows ending last = by (after_cases ending last)
   where
     -- the cause is one later
-    caused_still : (ending : RunStatus) (old mid new : Outside) (history : List Entry) → IsLater mid new → IsLater old mid → StatusCause for_now no_causes old mid history ending → StatusCause for_now no_causes old new history ending
+    caused_still : (ending : RunStatus) (old mid new : Outside) (history : List Entry) → IsLater mid new → IsLater old mid → StatusCause no_causes old mid history ending → StatusCause no_causes old new history ending
     caused_still status.Done old mid new history later before cause = cause
     caused_still status.Refused old mid new history later before cause = cause
     caused_still (status.BadWords place) old mid new history later before cause = cause
@@ -102,12 +99,14 @@ follows ending last = by (after_cases ending last)
     by (inl stays) = subst (λ after. Follows ending after last) (sym stays.same) (record {
       of_commands = λ is. is;
       stopped = λ is. is;
+      goes = λ is. is;
       done = λ is. (is, stays.enough is);
       caused = caused_still ending;
     })
     by (inr short) = subst (λ after. Follows ending after last) (sym short) (record {
       of_commands = λ is. refl;
       stopped = λ is. refl;
+      goes = λ is. absurd cc;
       done = λ is. absurd cc;
       caused = λ old mid new history later before cause. tt;
     })
@@ -116,7 +115,7 @@ follows ending last = by (after_cases ending last)
 
 -- what a whole run comes to
 abbrev pub Ends : List Asked → Parts → Outside → List Entry → RunStatus → Type 0
-Ends script old new history ending = Runs script old new history ending × StatusCause for_now no_causes old.outside new history ending × (is_of_commands ending ≡ true)
+Ends script old new history ending = Runs script old new history ending × StatusCause no_causes old.outside new history ending × (is_of_commands ending ≡ true)
 
 module _ (script : List Asked) (old mid : Parts) (new : Outside) (ending : RunStatus) (last : Tail) (began : seen_of old ≡ at_rest []) (ran : Ran script old mid ending) (finishes : Finishes mid new last) (later : IsLater mid.outside new) where
   abbrev after : RunStatus
@@ -140,9 +139,9 @@ module _ (script : List Asked) (old mid : Parts) (new : Outside) (ending : RunSt
   onward = later_then old.outside mid.outside new ran.later later
 
   on_trail : (before : Trail) → CoreGoesOn (EachReply false) (end_of_trail before) (image_at before (end_of_trail before)) before old.outside.told (at_rest []) [] → IsReady old
-      → HoldsOnTrail (EachReply false) (for_now.stops after) script before new.told mid.history after
-  on_trail before gone ready = ends_on_trail false (for_now.stops after) script new.told (course_of seen) ran.unwritten after before
-      (core_has_gone_on (EachReply false) (end_of_trail before) (image_at before (end_of_trail before)) before new.told seen ran.unwritten on) (left_going (for_now.stops after)) (written ran.written)
+      → HoldsOnTrail (EachReply false) (has_stopped after) script before new.told mid.history after
+  on_trail before gone ready = ends_on_trail false (has_stopped after) script new.told (course_of seen) ran.unwritten after before
+      (core_has_gone_on (EachReply false) (end_of_trail before) (image_at before (end_of_trail before)) before new.told seen ran.unwritten on) (left_going (has_stopped after)) (written ran.written)
     where
       on : CoreGoesOn (EachReply false) (end_of_trail before) (image_at before (end_of_trail before)) before new.told seen ran.unwritten
       on =
@@ -151,25 +150,25 @@ module _ (script : List Asked) (old mid : Parts) (new : Outside) (ending : RunSt
           let ended = finishes.waits (ran.ready ready).steady (EachReply false) mid.history ran.unwritten (end_of_trail before) (image_at before (end_of_trail before)) all.trail all.told all.core in
           record { trail = ended.trail; told = ended.told; goes_on = goes_on_then before all.trail ended.trail (goes_on_then before gone.trail all.trail gone.goes_on all.goes_on) ended.goes_on; core = ended.core }
 
-  by_states : (first : Image) → CoreGoesTo first old.outside.told (at_rest []) → IsReady old → HoldsByStates (for_now.stops after) script first new.told mid.history
+  by_states : (first : Image) → CoreGoesTo first old.outside.told (at_rest []) → IsReady old → HoldsByStates (has_stopped after) script first new.told mid.history
   by_states first gone ready =
       let all = ran.keeps_to ready first gone.image gone.told (subst (CoreTo first gone.image) (sym began) gone.core) in
       let ended = (finishes.becomes.leads (ran.ready ready).steady (EachReply false) mid.history).keeps_to first all.image all.told all.core in
-      ends_by_states (for_now.stops after) script first new.told (course_of seen) (core_has_gone_to first new.told seen ended) (left_going (for_now.stops after))
+      ends_by_states (has_stopped after) script first new.told (course_of seen) (core_has_gone_to first new.told seen ended) (left_going (has_stopped after))
 
   -- nothing is left to settle
   settled : is_done after ≡ true → (StoreRoseBy 1 old.outside new → ⊥) → IsReady old → AreSettled mid.history new.told
   settled done calm ready = all_weaker (IsSettledOrLeft mid) (λ (e : Entry). e.reply ≡ Some reply.Ok → (e.operation ≡ 0 → ⊥) → IfContents new.told (IsSettledNumber e.operation)) mid.history
       all (ran.settled (says.done done).0 ready (λ rose. calm (rose_before old.outside mid.outside new rose later ran.later)))
     where
-      whole : (found : Tail) → last ≡ found → (found ≡ tail.Memory → ⊥) → (found ≡ tail.Store → StoreRoseBy 1 mid.outside new) → last ≡ tail.Settled
-      whole tail.Settled is enough rose = is
-      whole tail.Store is enough rose = absurd (calm (rose_after old.outside mid.outside new ran.later (rose refl)))
-      whole tail.Memory is enough rose = absurd (enough refl)
+      all_settled : (found : Tail) → last ≡ found → (found ≡ tail.Memory → ⊥) → (found ≡ tail.Store → StoreRoseBy 1 mid.outside new) → last ≡ tail.Settled
+      all_settled tail.Settled is enough rose = is
+      all_settled tail.Store is enough rose = absurd (calm (rose_after old.outside mid.outside new ran.later (rose refl)))
+      all_settled tail.Memory is enough rose = absurd (enough refl)
 
       now : (op : Op) → IfContents mid.outside.told (IsSettledOp op) ⊎ (left_of (mid.doing 1) ≡ Some op) → IfContents new.told (IsSettledOp op)
       now op (inl held) = finishes.becomes.settled (ran.ready ready).steady op held
-      now op (inr here) = finishes.settles (whole last refl (says.done done).1 finishes.cause) (ran.ready ready).steady 1 op here
+      now op (inr here) = finishes.settles (all_settled last refl (says.done done).1 finishes.cause) (ran.ready ready).steady 1 op here
 
       all : (e : Entry) → IsSettledOrLeft mid e → e.reply ≡ Some reply.Ok → (e.operation ≡ 0 → ⊥) → IfContents new.told (IsSettledNumber e.operation)
       all e held ok number =
@@ -177,8 +176,16 @@ module _ (script : List Asked) (old mid : Parts) (new : Outside) (ending : RunSt
           contents_weaker new.told (IsSettledOp it.0) (IsSettledNumber e.operation) (λ image s other named. settled_number it.0 other image (named ∙ sym it.1) s) (now it.0 it.2)
 
   -- all commands were answered
+  none_left : is_done after ≡ true → ran.rest ≡ []
+  none_left done = ran.all (says.goes (done_goes after done))
+    where
+      done_goes : (s : RunStatus) → is_done s ≡ true → has_stopped s ≡ false
+      done_goes status.Done is = refl
+      done_goes status.Refused is = refl
+      done_goes other is = absurd cc
+
   whole_script : is_done after ≡ true → script ≡ ran.done
-  whole_script done = ran.split ∙ ap (λ others. ran.done ++ others) (ran.all (says.done done).0) ∙ append-nil ran.done
+  whole_script done = ran.split ∙ ap (λ others. ran.done ++ others) (none_left done) ∙ append-nil ran.done
 
   answers : is_done after ≡ true → AllByRecursion (λ (asked : Asked). is_plain asked.command ≡ true) script → AreAnswersTo script mid.history
   answers done plain = subst (λ asked. AreAnswersTo asked mid.history) (sym (whole_script done))
@@ -204,27 +211,22 @@ module _ (script : List Asked) (old mid : Parts) (new : Outside) (ending : RunSt
     on_trail = on_trail;
     by_states = by_states;
     served = record {
-      in_order = in_order script ran.done ran.rest ran.split mid.history ran.answered (for_now.stops after);
-      all = λ done. all_answered script ran.done ran.rest ran.split mid.history ran.answered (ran.all (says.done done).0);
-      all_after_fault = λ goes failed. let both : (has_stopped after || true) ≡ false = sym (ap (λ b. has_stopped after || b) failed) ∙ goes in absurd (or_true (has_stopped after) both);
+      in_order = in_order script ran.done ran.rest ran.split mid.history ran.answered (has_stopped after);
+      all = λ done. all_answered script ran.done ran.rest ran.split mid.history ran.answered (none_left done);
+      all_after_fault = λ failed some. all_answered script ran.done ran.rest ran.split mid.history ran.answered (ran.all (says.goes (faulted_goes after failed)));
     };
     kept = record {
-      few_faults = rose_still (faults mid.history) old.outside mid.outside new later ran.few_faults;
+      few_faults = rose_by_then (faults mid.history) old.outside mid.outside new later ran.few_faults;
       ends_with_memory = ran.ends_with_memory;
       nothing = λ is. absurd (did is);
       unchanged = λ is. absurd (did is);
     };
-    ends_with_fault = ran.ends_with_fault;
     numbered = ran.numbered;
     named = λ ready. still_told mid.outside new (finishes.becomes.settled (ran.ready ready).steady) _ (ran.named ready);
     settled = settled;
     answers = answers;
     later = onward;
   }
-    where
-      or_true : (b : Bool) → (b || true) ≡ false → ⊥
-      or_true true is = absurd cc
-      or_true false is = absurd cc
 
   -- so it is of the history that is handed back, and of the status
   pub run_ends : (history : List Entry) (found : RunStatus) → history ≡ mid.history → found ≡ after → Ends script old new history found

@@ -3,16 +3,14 @@ use Rattle.std.proofs.Common.{◌≡◌, ℕ, zero, suc, Bool, true, false, cond
 use Rattle.std.proofs.lemmas.List.{append-nil}
 use Rattle.std.specs.Prelude.{option_map}
 use Rattle.std.specs.List.{AllByRecursion}
-use Rattle.map_ops.specs.Planning.{is_long_planned}
+use Rattle.map_ops.specs.Planning.{is_long}
 use Rattle.plain_model.specs.declared.commands.Asked.{Asked}
 use Rattle.plain_model.specs.declared.commands.Command.{Command}
 use Rattle.plain_model.specs.declared.commands.Command.TheVariants as command
 use Rattle.plain_model.specs.declared.history.Entry.{Entry}
-use Rattle.plain_model.specs.Summary.{replies_of, is_fault}
 use Rattle.plain_model.specs.Headline.{script_of, answered_by, InOrder, AllAnswered}
-use Rattle.plain_model.proofs.HistoryLaws.{only_last, not_once}
 use Rattle.plain_runs.specs.PlainRuns.{is_plain, AreAnswersTo}
-use Rattle.script_shell.specs.Promises.{EndsWithFault, IsUnnumbered}
+use Rattle.script_shell.specs.Promises.{IsUnnumbered}
 use Rattle.script_shell.specs.Ran.{IsServedBy, AreServed}
 
 pub answers_push : (script : List Asked) (history : List Entry) (asked : Asked) (e : Entry) → AreServed script history → IsServedBy asked e → AreServed (script ++ asked ∷ []) (history ++ e ∷ [])
@@ -74,9 +72,15 @@ module _ (script done rest : List Asked) (split : script ≡ done ++ rest) (hist
 -- ---- entries of plain commands
 
 -- a plain command is no long one
-plain_is_short : (c : Command) → is_plain c ≡ true → is_long_planned c ≡ false
+plain_is_short : (c : Command) → is_plain c ≡ true → is_long c ≡ false
 plain_is_short (command.Add name low high location) plain = absurd cc
 plain_is_short (command.Addpoint name key location) plain = absurd cc
+plain_is_short (command.Delete name key token) plain = absurd cc
+plain_is_short (command.Offline name key token) plain = absurd cc
+plain_is_short (command.Online name key token) plain = absurd cc
+plain_is_short (command.Move name key location token) plain = absurd cc
+plain_is_short (command.Split name key token) plain = absurd cc
+plain_is_short (command.Merge name key token) plain = absurd cc
 plain_is_short c plain = refl
 
 pub answers_plain : (script : List Asked) (history : List Entry) → AreServed script history → AllByRecursion (λ (asked : Asked). is_plain asked.command ≡ true) script → AllByRecursion IsUnnumbered history → AreAnswersTo script history
@@ -84,7 +88,7 @@ answers_plain [] [] all plain numbered = tt
 answers_plain [] (e ∷ history) all plain numbered = absurd all
 answers_plain (asked ∷ script) [] all plain numbered = absurd all
 answers_plain (asked ∷ script) (e ∷ history) all plain numbered = (
-  record { session = all.0.session; command = all.0.command; answer = all.0.answer; reply = all.0.reply; operation = numbered.0 (ap is_long_planned all.0.command ∙ plain_is_short asked.command plain.0) },
+  record { session = all.0.session; command = all.0.command; answer = all.0.answer; reply = all.0.reply; operation = numbered.0 (ap is_long all.0.command ∙ plain_is_short asked.command plain.0) },
   answers_plain script history all.1 plain.1 numbered.1,
 )
 
@@ -97,11 +101,3 @@ all_push P (x ∷ history) e all one = (all.0, all_push P history e all.1 one)
 pub all_weaker : (P Q : Entry → Type 0) (history : List Entry) → ((e : Entry) → P e → Q e) → AllByRecursion P history → AllByRecursion Q history
 all_weaker P Q [] weaker all = tt
 all_weaker P Q (e ∷ history) weaker all = (weaker e all.0, all_weaker P Q history weaker all.1)
-
--- ---- at most one `fault`, which is the last
-
-pub fault_last : (history : List Entry) (e : Entry) → replies_of is_fault history ≡ 0 → EndsWithFault (history ++ e ∷ [])
-fault_last = only_last EndsWithFault is_fault tt (λ e. tt) (λ e f es no ends. (no, ends))
-
-pub fault_none : (history : List Entry) → replies_of is_fault history ≡ 0 → EndsWithFault history
-fault_none = not_once EndsWithFault is_fault tt (λ e. tt) (λ e f es no ends. (no, ends))

@@ -3,6 +3,8 @@ pub mod EndLaws
 pub mod HistoryLaws
 pub mod LoopLaws
 pub mod PlainEnds
+pub mod ReplySorts
+pub mod RiseLaws
 pub mod ScriptLaws
 pub mod ServingLaws
 pub mod ToldLaws

@@ -9,13 +9,13 @@ use Rattle.plain_model.specs.declared.finish.RunStatus.{RunStatus}
 use Rattle.plain_model.specs.declared.finish.RunStatus.TheVariants as status
 use Rattle.plain_model.specs.declared.history.Entry.{Entry}
 use Rattle.plain_model.specs.Summary.{replies_of, is_fault, is_memory}
-use Rattle.plain_model.specs.Headline.{StatusCause, is_done, IsLegalByStates, IsLegalHistory}
+use Rattle.plain_model.specs.Headline.{StatusCause, has_stopped, is_done, IsLegalByStates, IsLegalHistory}
 use Rattle.plain_model.specs.RunSoFar.{HoldsOnTrail, HoldsByStates}
 use Rattle.plain_model.specs.Written.{EachReply}
 use Rattle.plain_runs.specs.PlainRuns.{is_plain, AreAnswersTo, IsPlainRun}
 use Rattle.plain_runs.proofs.PlainHeadlines.{IsPlainAsked, plain_by_states, plain_on_trail}
 use Rattle.manager_core.specs.Cores.{Parts, IsReady, Opens}
-use Rattle.script_shell.specs.Promises.{Runs, for_now, no_causes}
+use Rattle.script_shell.specs.Promises.{Runs, no_causes}
 use Rattle.script_shell.specs.Ran.{IsAskedAlone}
 
 -- what holds where the contents are told is so at the end of a trail
@@ -33,11 +33,11 @@ both (asked ∷ script) alone plain = ((plain.0, alone.0.1), both script alone.1
 module _ (script : List Asked) (alone : AllByRecursion IsAskedAlone script) (plain : AllByRecursion (λ (asked : Asked). is_plain asked.command ≡ true) script) (old : Parts) (new : Outside) (history : List Entry) where
   -- no run that ended so had stopped, or met a fault or want of memory
   record EndsCalmly (ending : RunStatus) : Type 0 where
-    goes : for_now.stops ending ≡ false
+    goes : has_stopped ending ≡ false
     no_fault : replies_of is_fault history ≡ 0
     no_memory : replies_of is_memory history ≡ 0
 
-  calmly : (ending : RunStatus) → is_done ending ≡ true → StatusCause for_now no_causes old.outside new history ending → EndsCalmly ending
+  calmly : (ending : RunStatus) → is_done ending ≡ true → StatusCause no_causes old.outside new history ending → EndsCalmly ending
   calmly status.Done is cause = record { goes = refl; no_fault = cause.1; no_memory = cause.2 }
   calmly status.Refused is cause = record { goes = refl; no_fault = cause.1; no_memory = cause.2 }
   calmly other is cause = absurd cc
@@ -46,12 +46,12 @@ module _ (script : List Asked) (alone : AllByRecursion IsAskedAlone script) (pla
     abbrev Plainly : Image → Image → Type 0
     Plainly first last = IsPlainRun script first last history
 
-    by_states : (first : Image) → AreAnswersTo script history → HoldsByStates (for_now.stops ending) script first new.told history → IfContents new.told (Plainly first)
+    by_states : (first : Image) → AreAnswersTo script history → HoldsByStates (has_stopped ending) script first new.told history → IfContents new.told (Plainly first)
     by_states first answers holds = in_its_contents new.told (Plainly first) holds.last holds.told
         (plain_by_states script history (both script alone plain) answers calm.no_fault calm.no_memory first holds.last
         (subst (λ stopped. IsLegalByStates stopped first holds.last script history) calm.goes holds.legal))
 
-    on_trail : (before : Trail) → AreAnswersTo script history → HoldsOnTrail (EachReply false) (for_now.stops ending) script before new.told history ending → IfContents new.told (Plainly (image_at before (end_of_trail before)))
+    on_trail : (before : Trail) → AreAnswersTo script history → HoldsOnTrail (EachReply false) (has_stopped ending) script before new.told history ending → IfContents new.told (Plainly (image_at before (end_of_trail before)))
     on_trail before answers holds = on_its_trail new.told (Plainly (image_at before (end_of_trail before))) holds.trail holds.told
         (plain_on_trail script history (both script alone plain) answers calm.no_fault calm.no_memory before holds.trail holds.goes_on
         (subst (λ stopped. IsLegalHistory stopped holds.trail (end_of_trail before) script history) calm.goes holds.legal))
@@ -71,6 +71,6 @@ module _ (script : List Asked) (alone : AllByRecursion IsAskedAlone script) (pla
       ends_plainly : IfContents opened (λ first. Sound first → IfContents new.told (Plainly first))
       ends_plainly = by opened refl
 
-  pub runs_plainly : (opened : Told) → Opens opened old.outside.told → (IfContents opened Sound → IsReady old) → (ending : RunStatus) → Runs script old new history ending → is_done ending ≡ true → StatusCause for_now no_causes old.outside new history ending
+  pub runs_plainly : (opened : Told) → Opens opened old.outside.told → (IfContents opened Sound → IsReady old) → (ending : RunStatus) → Runs script old new history ending → is_done ending ≡ true → StatusCause no_causes old.outside new history ending
       → IfContents opened (λ first. Sound first → IfContents new.told (λ last. IsPlainRun script first last history))
   runs_plainly opened opens ready ending runs done cause = ends_plainly ending runs done (calmly ending done cause) opened opens ready

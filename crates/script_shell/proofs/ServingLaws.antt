@@ -8,7 +8,7 @@ use Rattle.cell_world.specs.declared.operations.StageName.{StageName}
 use Rattle.cell_world.specs.declared.operations.StageName.TheVariants.{Logged, SourceDone, TargetDone}
 use Rattle.cell_world.proofs.ContentsLaws.{contents_weaker}
 use Rattle.cell_world.proofs.OutsideLaws.{later_then}
-use Rattle.map_ops.specs.Planning.{is_long_planned}
+use Rattle.map_ops.specs.Planning.{is_long}
 use Rattle.plain_model.specs.declared.commands.Command.{Command}
 use Rattle.plain_model.specs.declared.history.Entry.{Entry}
 use Rattle.plain_model.specs.declared.replies.Reply.{Reply}
@@ -33,6 +33,7 @@ use Rattle.manager_core.specs.Doings.{IsProper, all_doing}
 use Rattle.manager_core.specs.Events.{IsOf, IsEntered, IsOperating, Enters, Goes, Comes, ComesAfter, ComesTo, IsNumbered, StaysReady, rest_after}
 use Rattle.manager_core.specs.Steady.{IsSettledOp, IsSteady, KeepsSettled}
 use Rattle.script_shell.specs.Serving.{IsUnderWay, GoesFurther, IsToSettle, Served, Serves}
+use Rattle.script_shell.proofs.RiseLaws.{rose_once}
 use Rattle.script_shell.proofs.ToldLaws.{still_told}
 
 -- ---- a session whose command is going
@@ -50,7 +51,7 @@ under_way None session e old new (Ended sort) comes = tt
 under_way None session e old new (Stopped other) comes = tt
 
 -- a command that is going is a long one
-pub going_is_long : (ds : List Seat) (session : ℕ) (c : Command) (op : Op) (stage : StageName) → AllByRecursion IsProper ds → all_doing ds session ≡ Operating c op stage → is_long_planned c ≡ true
+pub going_is_long : (ds : List Seat) (session : ℕ) (c : Command) (op : Op) (stage : StageName) → AllByRecursion IsProper ds → all_doing ds session ≡ Operating c op stage → is_long c ≡ true
 going_is_long ds zero c op stage proper is = absurd cc
 going_is_long [] (suc n) c op stage proper is = absurd cc
 going_is_long (seat.Resting ∷ ds) (suc zero) c op stage proper is = absurd cc
@@ -58,7 +59,7 @@ going_is_long (seat.Leaving o s ∷ ds) (suc zero) c op stage proper is = absurd
 going_is_long (seat.Operating d o s ∷ ds) (suc zero) c op stage proper is = ap long_of (sym is) ∙ proper.0.0
   where
     long_of : Doing → Bool
-    long_of (Operating x o s) = is_long_planned x
+    long_of (Operating x o s) = is_long x
     long_of other = false
 going_is_long (d ∷ ds) (suc (suc n)) c op stage proper is = going_is_long ds (suc n) c op stage proper.1 is
 
@@ -102,11 +103,6 @@ of_command session c d r number before after is entered = subst (λ x. IsEntered
 
 -- ---- what its session had left
 
--- where a store failed more than once it failed
-rose_once : (by : ℕ) (old new : Outside) → 1 ≤ by → StoreRoseBy by old new → StoreRoseBy 1 old new
-rose_once by old new some (inl last) = inl last
-rose_once by old new some (inr more) = inr (omega (arith, some, more))
-
 rose_of : (came : Option Reply) (old new : Outside) → StoreRoseBy (failures came) old new → StoreRoseBy 1 old new
 rose_of came old new = rose_once (failures came) old new (some came)
   where
@@ -123,7 +119,7 @@ pub record IsGoing (session : ℕ) (c : Command) (op : Op) (stage : StageName) (
   pub others : (other : ℕ) → (session ≡ other → ⊥) → now.doing other ≡ old.doing other
   pub same : now.history ≡ old.history
   pub on : now.stop ≡ None
-  pub long : is_long_planned c ≡ true
+  pub long : is_long c ≡ true
   pub settles : IsReady old → (op : Op) → left_of (old.doing session) ≡ Some op → (StoreRoseBy 1 old.outside now.outside → ⊥) → IfContents now.outside.told (IsSettledOp op)
   pub settled : IsReady old → KeepsSettled old.outside now.outside
   pub ready : IsReady old → IsReady now
@@ -144,7 +140,7 @@ course_ends session c old now (Stopped why) course = course
 
 -- ---- it is asked
 
-module _ (session : ℕ) (c : Command) (old new : Parts) (on : old.stop ≡ None) (proper : (d : Command) (op : Op) (stage : StageName) → new.doing session ≡ Operating d op stage → is_long_planned d ≡ true) (stays : StaysReady old new) (later : IsLater old.outside new.outside) where
+module _ (session : ℕ) (c : Command) (old new : Parts) (on : old.stop ≡ None) (proper : (d : Command) (op : Op) (stage : StageName) → new.doing session ≡ Operating d op stage → is_long d ≡ true) (stays : StaysReady old new) (later : IsLater old.outside new.outside) where
   abbrev Asks : Event
   Asks = event.Ask c
 
@@ -158,7 +154,7 @@ module _ (session : ℕ) (c : Command) (old new : Parts) (on : old.stop ≡ None
     named = λ ready. still_told old.outside new.outside (stays.settled ready on) _ (never_ok ready);
     settles = λ ready op left enough calm. enters.settles ready op left (λ is. enough (some_is r reply.Memory is)) (λ rose. calm (rose_of (Some r) old.outside new.outside rose));
     settled = λ ready. stays.settled ready on;
-    short = λ short. enters.numbered (ap is_long_planned enters.of_event ∙ short);
+    short = λ short. enters.numbered (ap is_long enters.of_event ∙ short);
     ready = stays.ready;
     keeps = λ ready. enters.keeps ready on;
     keeps_to = λ ready. enters.keeps_to ready on;
@@ -166,9 +162,9 @@ module _ (session : ℕ) (c : Command) (old new : Parts) (on : old.stop ≡ None
   }
     where
       -- a long command goes on before it is done
-      never_ok : IsReady old → IfContents old.outside.told (λ image. is_long_planned c ≡ true → r ≡ reply.Ok → (enters.number ≡ 0 → ⊥) × IsToSettle enters.number None)
+      never_ok : IsReady old → IfContents old.outside.told (λ image. is_long c ≡ true → r ≡ reply.Ok → (enters.number ≡ 0 → ⊥) × IsToSettle enters.number None)
       never_ok ready = contents_weaker old.outside.told (AsksExactly old.doing session enters.command (Some r)) _
-          (λ image exact long ok. absurd (exact.long (ap is_long_planned enters.of_event ∙ long) (ap Some ok))) (enters.has_cause ready on).1
+          (λ image exact long ok. absurd (exact.long (ap is_long enters.of_event ∙ long) (ap Some ok))) (enters.has_cause ready on).1
 
       numbered : IsReady old → (r ≡ reply.Fault → ⊥) → enters.number ≡ 0
       numbered ready calm = let why = enters.has_cause ready on in no_number r enters.number why.0.between enters.between calm why.0.tries
@@ -184,7 +180,7 @@ module _ (session : ℕ) (c : Command) (old new : Parts) (on : old.stop ≡ None
       others = goes.next.others;
       same = goes.same;
       on = goes.on;
-      long = ap is_long_planned (sym goes.of_event) ∙ proper goes.command goes.op goes.stage goes.next.here;
+      long = ap is_long (sym goes.of_event) ∙ proper goes.command goes.op goes.stage goes.next.here;
       settles = λ ready op left calm. goes.settles ready op left (none_is_some reply.Memory) (λ rose. calm (rose_of None old.outside new.outside rose));
       settled = λ ready. stays.settled ready on;
       ready = stays.ready;
@@ -202,7 +198,6 @@ module _ (session : ℕ) (c : Command) (old new : Parts) (on : old.stop ≡ None
   by_outcome (Ended sort) comes = (comes.0, comes.1, comes.2, asked_served comes.0 _ [] comes.3)
   by_outcome (Stopped cause.Sink) comes = (comes.0, comes.2, (comes.3.1, asked_served comes.0 _ comes.3.1 comes.3.2))
   by_outcome (Stopped cause.Memory) comes = (comes.0, (_, asked_served comes.0 _ _ comes.2))
-  by_outcome (Stopped cause.Store) comes = absurd comes
 
   pub asked_course : (outcome : Outcome) → ComesAfter old.stop false session Asks old new outcome → Course 0 session c old new outcome
   asked_course outcome comes = by_outcome outcome (subst (λ stop. ComesAfter stop false session Asks old new outcome) on comes)
@@ -234,7 +229,7 @@ module _ (steps session : ℕ) (c : Command) (op : Op) (stage : StageName) (old 
         (contents_weaker mid.outside.told (IsSteady mid.doing) _ (λ image steady long ok. (λ none. (steady.plain session live here).1 (sym named ∙ none), to_settle ok)) (going.ready ready).steady);
     settles = λ ready before left enough. settles_still ready before left;
     settled = still;
-    short = λ short. absurd (not_both (is_long_planned c) going.long short);
+    short = λ short. absurd (not_both (is_long c) going.long short);
     ready = λ ready. stays.ready (going.ready ready);
     keeps = λ ready. core_kept_then (EachReply false) old.outside.told mid.outside.told new.outside.told (seen_of old) (seen_of mid) (seen_of new) rest (going.keeps ready) (enters.keeps (going.ready ready) going.on);
     keeps_to = λ ready. core_kept_to_then old.outside.told mid.outside.told new.outside.told (seen_of old) (seen_of mid) (seen_of new) (going.keeps_to ready) (enters.keeps_to (going.ready ready) going.on);
@@ -285,7 +280,6 @@ module _ (steps session : ℕ) (c : Command) (op : Op) (stage : StageName) (old 
   gone_by (Ended sort) comes = (comes.0, comes.1, comes.2, gone_served comes.0 _ [] comes.3)
   gone_by (Stopped cause.Sink) comes = (comes.0, omega (arith, going.later.sink, comes.2), (comes.3.1, gone_served comes.0 _ comes.3.1 comes.3.2))
   gone_by (Stopped cause.Memory) comes = (comes.0, (_, gone_served comes.0 _ _ comes.2))
-  gone_by (Stopped cause.Store) comes = absurd comes
 
 pub gone_course : (steps session : ℕ) (c : Command) (old mid new : Parts) (outcome next : Outcome) → Course steps session c old mid outcome → GoesFurther session outcome mid new next → IsLater mid.outside new.outside → Course (steps + 1) session c old new next
 gone_course steps session c old mid new (Going number) next course further later =

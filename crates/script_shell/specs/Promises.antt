@@ -1,5 +1,5 @@
 -- What a whole run of a script promises.
-use Rattle.std.specs.Prelude.{◌≡◌, ◌⊎◌, ℕ, ◌≤◌, ◌<◌, Bool, true, false, ◌||◌, List, [], ◌∷◌, length, Option, Some, option_map}
+use Rattle.std.specs.Prelude.{◌≡◌, ◌⊎◌, ℕ, ◌≤◌, ◌<◌, Bool, true, false, List, [], length, Option, Some, option_map}
 use Rattle.std.specs.Bool.{MatchBool}
 use Rattle.std.specs.List.{AllByRecursion}
 use Rattle.cell_world.specs.Texts.{Text}
@@ -8,16 +8,14 @@ use Rattle.cell_world.specs.Images.{Image, Trail, image_at, end_of_trail}
 use Rattle.cell_world.specs.Sound.{Sound}
 use Rattle.cell_world.specs.Outside.{Outside, Told, TellsContents, TellsTrail, IfContents, IsLater, StoreRoseBy}
 use Rattle.cell_world.specs.declared.operations.Op.{Op}
-use Rattle.map_ops.specs.Planning.{is_long_planned}
+use Rattle.map_ops.specs.Planning.{is_long}
 use Rattle.plain_model.specs.declared.commands.Asked.{Asked}
 use Rattle.plain_model.specs.declared.finish.RunStatus.{RunStatus}
 use Rattle.plain_model.specs.declared.finish.RunStatus.TheVariants as status
 use Rattle.plain_model.specs.declared.history.Entry.{Entry}
 use Rattle.plain_model.specs.declared.replies.Reply.TheVariants as reply
-use Rattle.plain_model.specs.Refusing.{if_there}
-use Rattle.plain_model.specs.Summary.{is_fault}
 use Rattle.plain_model.specs.Written.{EachReply}
-use Rattle.plain_model.specs.Headline.{Manner, Causes, has_stopped, is_done, is_store_fault, EachOnceInOrder, KeepsToStatus, StatusHasCause, Headline, HeadlineAlone}
+use Rattle.plain_model.specs.Headline.{Causes, has_stopped, is_done, EachOnceInOrder, KeepsToStatus, StatusHasCause, Headline, HeadlineAlone}
 use Rattle.plain_model.specs.RunSoFar.{HoldsOnTrail, HoldsByStates}
 use Rattle.plain_runs.specs.PlainRuns.{is_plain, AreAnswersTo, IsPlainRun}
 use Rattle.script_lang.specs.declared.programs.Program.TheVariants.{Ctl}
@@ -29,10 +27,6 @@ use Rattle.manager_core.specs.Cores.{Parts, IsReady}
 use Rattle.manager_core.specs.Steady.{IsSettledOp}
 
 -- ---- statuses
-
--- For now a run stops with a `fault` too.
-abbrev pub for_now : Manner
-for_now = record { stops = λ ending. has_stopped ending || is_store_fault ending; opens = true }
 
 -- the script was read, and the run came to the stores
 abbrev pub has_begun : RunStatus → Bool
@@ -85,19 +79,13 @@ no_causes = record { bad_words = λ place. ⊥; bad_script = λ line reason. ⊥
 
 -- ---- the commands alone
 
--- With a `fault` the history ends, until the manager goes on after faults.
-abbrev pub EndsWithFault : List Entry → Type 0
-EndsWithFault [] = Unit {0}
-EndsWithFault (e ∷ []) = Unit {0}
-EndsWithFault (e ∷ f ∷ es) = (if_there is_fault e.reply ≡ false) × EndsWithFault (f ∷ es)
-
 -- a command that is no long one names no operation
 abbrev pub IsUnnumbered : Entry → Type 0
-IsUnnumbered e = is_long_planned e.command ≡ false → e.operation ≡ 0
+IsUnnumbered e = is_long e.command ≡ false → e.operation ≡ 0
 
 -- a long command that was answered `ok` names an operation
 abbrev pub IsNamed : Entry → Type 0
-IsNamed e = is_long_planned e.command ≡ true → e.reply ≡ Some reply.Ok → e.operation ≡ 0 → ⊥
+IsNamed e = is_long e.command ≡ true → e.reply ≡ Some reply.Ok → e.operation ≡ 0 → ⊥
 
 -- The operation of this number was committed or undone: no log row has it, and no mark of it stands at any attached site.
 abbrev pub IsSettledNumber : ℕ → Image → Type 0
@@ -111,15 +99,13 @@ AreSettled history told = AllByRecursion (λ (e : Entry). e.reply ≡ Some reply
 pub record Runs (script : List Asked) (old : Parts) (new : Outside) (history : List Entry) (ending : RunStatus) : Type 0 where
   -- where a core began at the end of this trail, and rests now
   pub on_trail : (before : Trail) → CoreGoesOn (EachReply false) (end_of_trail before) (image_at before (end_of_trail before)) before old.outside.told (at_rest []) [] → IsReady old
-      → HoldsOnTrail (EachReply false) (for_now.stops ending) script before new.told history ending
+      → HoldsOnTrail (EachReply false) (has_stopped ending) script before new.told history ending
   -- and where it began with these contents
-  pub by_states : (first : Image) → CoreGoesTo first old.outside.told (at_rest []) → IsReady old → HoldsByStates (for_now.stops ending) script first new.told history
+  pub by_states : (first : Image) → CoreGoesTo first old.outside.told (at_rest []) → IsReady old → HoldsByStates (has_stopped ending) script first new.told history
   -- each command once and in order
-  pub served : EachOnceInOrder for_now script history ending
+  pub served : EachOnceInOrder script history ending
   -- what the status says besides its cause
   pub kept : KeepsToStatus old.outside new history ending
-  -- at most one `fault` entry, and none after it
-  pub ends_with_fault : EndsWithFault history
   -- a command that is no long one names no operation
   pub numbered : AllByRecursion IsUnnumbered history
   -- and a long one that was answered `ok` names one, where contents are told
@@ -159,15 +145,13 @@ pub record RunsScript (words : List Text) (left after : Option Text) (faults_bef
   pub later : IsLater old new
   -- the headline, from a sound image on: over a world that tells its trail, and over one that tells its contents alone
   pub headline : (before : Trail) → old.told ≡ TellsTrail before → Sound (image_at before (end_of_trail before))
-      → Headline for_now (EachReply false) (causes_of words bytes faults_before faults_after) script before old new history ending
-  pub headline_alone : (first : Image) → old.told ≡ TellsContents first → Sound first → HeadlineAlone for_now (causes_of words bytes faults_before faults_after) script first old new history ending
+      → Headline (EachReply false) (causes_of words bytes faults_before faults_after) script before old new history ending
+  pub headline_alone : (first : Image) → old.told ≡ TellsContents first → Sound first → HeadlineAlone (causes_of words bytes faults_before faults_after) script first old new history ending
   -- over any world the two parts of it that speak of no store
-  pub served : EachOnceInOrder for_now script history ending
-  pub status : StatusHasCause for_now (causes_of words bytes faults_before faults_after) old new history ending
+  pub served : EachOnceInOrder script history ending
+  pub status : StatusHasCause (causes_of words bytes faults_before faults_after) old new history ending
   -- with status 0 or 1, where all commands are plain, from a sound image on, where contents are told: the replies are those of the plain step, one command after the other, and the final stores stand for the state that it leaves
   pub plain : is_done ending ≡ true → AllByRecursion (λ (asked : Asked). is_plain asked.command ≡ true) script → IfContents old.told (λ first. Sound first → IfContents new.told (λ last. IsPlainRun script first last history))
-  -- at most one `fault` entry, and none after it
-  pub ends_with_fault : EndsWithFault history
   -- a command that is no long one names no operation
   pub numbered : AllByRecursion IsUnnumbered history
   -- and a long one that was answered `ok` names one, from a sound image on, where contents are told

@@ -10,7 +10,7 @@ use Rattle.plain_model.specs.declared.finish.RunStatus.{RunStatus}
 use Rattle.plain_model.specs.declared.history.Entry.{Entry}
 use Rattle.plain_model.specs.declared.replies.Reply.{Reply}
 use Rattle.plain_model.specs.declared.replies.Reply.TheVariants as reply
-use Rattle.plain_model.specs.Headline.{EndsWithMemory, StatusCause, faults, is_done}
+use Rattle.plain_model.specs.Headline.{EndsWithMemory, StatusCause, faults, has_stopped, is_done}
 use Rattle.plain_model.specs.RunSoFar.{EndsWritten}
 use Rattle.plain_model.specs.Written.{EachReply}
 use Rattle.operation_laws.specs.Left.{left_of}
@@ -18,7 +18,7 @@ use Rattle.session_laws.specs.Contract.{KeepsCore, KeepsCoreTo}
 use Rattle.manager_core.specs.Cores.{Parts, IsReady, seen_of}
 use Rattle.manager_core.specs.Events.{IsResting}
 use Rattle.manager_core.specs.Steady.{IsSettledOp}
-use Rattle.script_shell.specs.Promises.{for_now, no_causes, is_of_commands, EndsWithFault, IsUnnumbered, IsNamed}
+use Rattle.script_shell.specs.Promises.{no_causes, is_of_commands, IsUnnumbered, IsNamed}
 
 -- what a script asks: commands that may be asked, of session 1
 abbrev pub IsAskedAlone : Asked → Type 0
@@ -48,12 +48,12 @@ IsSettledOrLeft p e = e.reply ≡ Some reply.Ok → (e.operation ≡ 0 → ⊥) 
 
 -- How the commands of a script were run, before the last one's operation is settled.
 pub record Ran (script : List Asked) (old new : Parts) (ending : RunStatus) : Type 0 where
-  -- those that were answered, and those that weren't: none, where the status is 0 or 1
+  -- those that were answered, and those that weren't: none, unless the run stopped
   pub done : List Asked
   pub rest : List Asked
   pub split : script ≡ done ++ rest
   pub answered : AreServed done new.history
-  pub all : is_done ending ≡ true → rest ≡ []
+  pub all : has_stopped ending ≡ false → rest ≡ []
   -- all their lines are written, or the run stopped at those of the last
   pub unwritten : Text
   pub written : EndsWritten unwritten ending new.history
@@ -69,10 +69,9 @@ pub record Ran (script : List Asked) (old new : Parts) (ending : RunStatus) : Ty
   -- with status 0 or 1 an operation is settled, or to be settled
   pub settled : is_done ending ≡ true → IsReady old → (StoreRoseBy 1 old.outside new.outside → ⊥) → AllByRecursion (IsSettledOrLeft new) new.history
   -- what the status says
-  pub cause : StatusCause for_now no_causes old.outside new.outside new.history ending
+  pub cause : StatusCause no_causes old.outside new.outside new.history ending
   pub of_commands : is_of_commands ending ≡ true
   pub few_faults : StoreRoseBy (faults new.history) old.outside new.outside
   pub ends_with_memory : EndsWithMemory new.history
-  pub ends_with_fault : EndsWithFault new.history
   -- the world is the same one later
   pub later : IsLater old.outside new.outside

@@ -12,7 +12,7 @@ use Rattle.script_lang.specs.Scripts.{built, IsScript}
 use Rattle.script_lang.specs.Sources.{script_limit, IfTold, TookAtMost}
 use Rattle.manager_core.specs.declared.opening.StartFault.{StartFault}
 use Rattle.manager_core.specs.declared.opening.StartFault.TheVariants as start
-use Rattle.script_shell.specs.Promises.{for_now, has_begun, was_read, causes_of}
+use Rattle.script_shell.specs.Promises.{has_begun, was_read, causes_of}
 
 -- The words are accepted, and the source had this script.
 pub record IsReadScript (words : List Text) (left after : Option Text) (faults_before faults_after : ℕ) (script : List Asked) : Type 0 where
@@ -38,7 +38,7 @@ pub record StopsReading (words : List Text) (left after : Option Text) (faults_b
   -- it is a status of the reading, or want of memory, and has its cause
   pub unbegun : has_begun ending ≡ false
   pub before_opening : ends_by_opening ending ≡ true
-  pub cause : (old new : Outside) → StatusCause for_now (causes_of words bytes faults_before faults_after) old new [] ending
+  pub cause : (old new : Outside) → StatusCause (causes_of words bytes faults_before faults_after) old new [] ending
   pub by_input : ComesByInput (causes_of words bytes faults_before faults_after) ending
 
 -- the status of a run whose stores can't be opened

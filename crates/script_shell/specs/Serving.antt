@@ -4,7 +4,7 @@ use Rattle.cell_world.specs.Texts.{Text}
 use Rattle.cell_world.specs.Counts.{Rose}
 use Rattle.cell_world.specs.Outside.{IfContents, StoreRoseBy}
 use Rattle.cell_world.specs.declared.operations.Op.{Op}
-use Rattle.map_ops.specs.Planning.{is_long_planned}
+use Rattle.map_ops.specs.Planning.{is_long}
 use Rattle.plain_model.specs.declared.commands.Command.{Command}
 use Rattle.plain_model.specs.declared.replies.Reply.{Reply}
 use Rattle.plain_model.specs.declared.replies.Reply.TheVariants as reply
@@ -49,12 +49,12 @@ pub record Served (session : ℕ) (c : Command) (r : Reply) (old new : Parts) (u
   -- the operation of a command that was done is to be settled
   pub to_settle : IsReady old → r ≡ reply.Ok → (number ≡ 0) ⊎ IsToSettle number left
   -- a long command that was done has one, where contents are told
-  pub named : IsReady old → IfContents new.outside.told (λ image. is_long_planned c ≡ true → r ≡ reply.Ok → (number ≡ 0 → ⊥) × IsToSettle number left)
+  pub named : IsReady old → IfContents new.outside.told (λ image. is_long c ≡ true → r ≡ reply.Ok → (number ≡ 0 → ⊥) × IsToSettle number left)
   -- what its session had left before is settled, unless memory was short or a store failed; and what was settled stays so
   pub settles : IsReady old → (op : Op) → left_of (old.doing session) ≡ Some op → (r ≡ reply.Memory → ⊥) → (StoreRoseBy 1 old.outside new.outside → ⊥) → IfContents new.outside.told (IsSettledOp op)
   pub settled : IsReady old → KeepsSettled old.outside new.outside
   -- a command that is no long one has no operation
-  pub short : is_long_planned c ≡ false → number ≡ 0
+  pub short : is_long c ≡ false → number ≡ 0
   -- the core goes on
   pub ready : IsReady old → IsReady new
   pub keeps : IsReady old → KeepsCore (EachReply false) old.outside.told (seen_of old) new.outside.told (seen_of new) unwritten
@@ -68,4 +68,3 @@ Serves session c old new (Going number) = ⊥
 Serves session c old new (Ended sort) = (r : Reply) × (sort ≡ sort_of r) × (new.stop ≡ stop_after r) × Served session c r old new []
 Serves session c old new (Stopped cause.Sink) = (r : Reply) × Rose old.outside.sink_faults new.outside.sink_faults × ((unwritten : Text) × Served session c r old new unwritten)
 Serves session c old new (Stopped cause.Memory) = (r : Reply) × ((unwritten : Text) × Served session c r old new unwritten)
-Serves session c old new (Stopped cause.Store) = ⊥

@@ -1,5 +1,5 @@
 //! The commands of a script, one after the other.
-ghost use Rattle.std.specs.Prelude.{◌≡◌, ◌≤◌, length, true, [], None};
+ghost use Rattle.std.specs.Prelude.{◌≡◌, ◌≤◌, ◌||◌, length, true, [], None};
 ghost use Rattle.std.specs.List.{AllByRecursion};
 ghost use Rattle.cell_world.specs.Outside.{IsLater};
 ghost use Rattle.map_ops.specs.Planning.{is_asked};
@@ -7,10 +7,10 @@ ghost use Rattle.manager_core.specs.Cores.{HasRoom, parts};
 ghost use Rattle.manager_core.specs.Doings.{AreAtRest, all_doing};
 ghost use Rattle.manager_core.specs.Events.{IsResting};
 ghost use Rattle.plain_model.specs.Headline.{StatusCause};
-ghost use Rattle.script_shell.specs.Promises.{Runs, for_now, is_of_commands, no_causes};
+ghost use Rattle.script_shell.specs.Promises.{Runs, is_of_commands, no_causes};
 ghost use Rattle.script_shell.specs.Ran.{Ran, IsAskedAlone};
 ghost use Rattle.script_shell.specs.Serving.{GoesFurther, IsUnderWay, Serves};
-ghost use Rattle.script_shell.specs.Stops.{refuses, status_after, stop_of};
+ghost use Rattle.script_shell.specs.Stops.{fails, refuses, status_after, status_of, stop_of};
 
 use cell_world::outside::World;
 use manager_core::manager::{Core, Event, Outcome, StopCause};
@@ -25,21 +25,45 @@ fn stopped(outcome: Outcome) -> Option<RunStatus>
     ensures { result ≡ stop_of outcome }
 {
     match outcome {
-        Outcome::Ended(Sort::Fault) => Some(RunStatus::StoreFault),
         Outcome::Ended(Sort::Memory) => Some(RunStatus::Memory),
-        Outcome::Ended(Sort::Good | Sort::Refused) => None,
+        Outcome::Ended(Sort::Good | Sort::Refused | Sort::Fault) => None,
         Outcome::Stopped(StopCause::Sink) => Some(RunStatus::WriteFault),
         Outcome::Stopped(StopCause::Memory) => Some(RunStatus::Memory),
-        Outcome::Stopped(StopCause::Store) => Some(RunStatus::StoreFault),
         Outcome::Going(_) => None,
     }
 }
 
-/// Whether a command was refused.
-fn was_refused(outcome: Outcome) -> bool
-    ensures { result ≡ refuses outcome }
-{
-    matches!(outcome, Outcome::Ended(Sort::Refused))
+/// Which replies came so far, of those that the status tells while the run goes on.
+#[derive(Clone, Copy)]
+struct Replied {
+    /// A command was answered `fault`.
+    faulted: bool,
+    /// A command was refused.
+    refused: bool,
+}
+
+impl Replied {
+    /// After the reply of one command more.
+    fn noting(self, outcome: Outcome) -> Replied
+        ensures faulted { result.faulted ≡ (self.faulted || fails outcome) }
+        ensures refused { result.refused ≡ (self.refused || refuses outcome) }
+    {
+        Replied {
+            faulted: self.faulted || matches!(outcome, Outcome::Ended(Sort::Fault)),
+            refused: self.refused || matches!(outcome, Outcome::Ended(Sort::Refused)),
+        }
+    }
+
+    /// The status where all commands were answered.
+    fn status(self) -> RunStatus
+        ensures { result ≡ status_of self.faulted self.refused }
+    {
+        match (self.faulted, self.refused) {
+            (true, _) => RunStatus::StoreFault,
+            (false, true) => RunStatus::Refused,
+            (false, false) => RunStatus::Done,
+        }
+    }
 }
 
 /// One step more of a command that is going.
@@ -88,7 +112,7 @@ fn run_command<W: World>(
     go_on(alloc, core, session, second)
 }
 
-/// Asks the commands in order, and says how they ended.
+/// Asks the commands in order, and says how they ended. A `fault` ends no run: the commands behind it are asked too.
 fn run_commands<W: World>(alloc: Global, core: &mut Core<W>, script: Vec<Asked>) -> RunStatus
     requires first { core.old.journal.entries ≡ [] }
     requires goes { core.old.stop ≡ None }
@@ -100,19 +124,18 @@ fn run_commands<W: World>(alloc: Global, core: &mut Core<W>, script: Vec<Asked>)
         (parts (W.outside core.old.world) core.old.journal.entries core.old.doings core.old.known core.old.stop)
         (parts (W.outside core.new.world) core.new.journal.entries core.new.doings core.new.known core.new.stop) result }
 {
-    let mut refused = false;
+    let mut replied = Replied {
+        faulted: false,
+        refused: false,
+    };
     for asked in script {
         let outcome = run_command(alloc, core, asked.session, asked.command);
         if let Some(status) = stopped(outcome) {
             return status;
         }
-        refused = refused || was_refused(outcome);
+        replied = replied.noting(outcome);
     }
-    if refused {
-        RunStatus::Refused
-    } else {
-        RunStatus::Done
-    }
+    replied.status()
 }
 
 /// The status of a run, by that of its commands and by what became of what they left to settle.
@@ -137,7 +160,7 @@ pub fn run_core<W: World>(alloc: Global, core: Core<W>, script: Vec<Asked>) -> (
     requires one_session { length core.doings ≡ 1 }
     requires asked { AllByRecursion IsAskedAlone script.items }
     ensures runs { Runs script.items (parts (W.outside core.world) core.journal.entries core.doings core.known core.stop) (W.outside result.1) result.0.history result.0.status }
-    ensures cause { StatusCause for_now no_causes (W.outside core.world) (W.outside result.1) result.0.history result.0.status }
+    ensures cause { StatusCause no_causes (W.outside core.world) (W.outside result.1) result.0.history result.0.status }
     ensures of_commands { is_of_commands result.0.status ≡ true }
 {
     let mut core = core;

@@ -2,7 +2,6 @@ use Rattle.std.proofs.Common.{ap, subst, sym}
 use Rattle.std.specs.Prelude.{Ok, Err}
 use Rattle.cell_world.specs.Outside.{IfContents}
 use Rattle.map_ops.specs.Planning.{IsPlanOf, PlansWith}
-use Rattle.op_steps.proofs.Rises.{rose_global}
 use Rattle.plain_model.specs.declared.plans.Plan.TheVariants as plan
 use Rattle.plain_model.specs.declared.replies.Reply.TheVariants as reply
 use Rattle.manager_core.specs.Asking.{AnswersNow}
@@ -47,7 +46,7 @@ returns-in-Err-Store-clause-comes g c =
     comes_now c.args.session c.args.command c.answer_with-in-Err-Store.result c.args.known.now c.args.known.now (all_doing c.args.doings.now) (g.W.World.outside c.args.world.now) (g.W.World.outside c.plan.new.world) c.requires.rests
     (now_either c.args.command c.requires.asked c.args.known.now (all_doing c.args.doings.now) (g.W.World.outside c.args.world.now) (g.W.World.outside c.plan.new.world) c.in-Err-Store.ensures.told reply.Fault c.answer_with-in-Err-Store.result.reply c.answer_with-in-Err-Store.ensures.reply
     (now_fault c.args.command c.requires.asked c.args.known.now (all_doing c.args.doings.now) (g.W.World.outside c.args.world.now) (g.W.World.outside c.plan.new.world) c.in-Err-Store.ensures.told
-    (rose_global (g.W.World.outside c.args.world.now) (g.W.World.outside c.plan.new.world) c.in-Err-Store.ensures.later.faults (c.in-Err-Store.ensures.cause (ap Err c.in-Err-Store.field-0-is)))))
+    (c.in-Err-Store.ensures.cause (ap Err c.in-Err-Store.field-0-is))))
 
 pub returns-clause-comes : goal.returns-clause-comes
 returns-clause-comes g c =

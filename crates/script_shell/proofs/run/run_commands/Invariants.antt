@@ -14,7 +14,7 @@ invariant-loop-asked g l =
       finite : (goal.iterator-loop-asked g).is_finite l.asked-iterator;
       so_far : SoFar l.fn.script.items (into_iter_items l.asked-iterator)
           (parts (g.W.World.outside l.fn.core.world) l.fn.core.journal.entries l.fn.core.doings l.fn.core.known l.fn.core.stop)
-          (parts (g.W.World.outside l.core.world) l.core.journal.entries l.core.doings l.core.known l.core.stop) l.refused;
+          (parts (g.W.World.outside l.core.world) l.core.journal.entries l.core.doings l.core.known l.core.stop) l.replied.faulted l.replied.refused;
       room : HasRoom l.core.journal l.core.stop;
       one_session : length l.core.doings ≡ 1;
       asked : AllByRecursion IsAskedAlone (into_iter_items l.asked-iterator);
