@@ -14,9 +14,9 @@ use Rattle.script_lang.specs.declared.command_line.WordsFault.{WordsFault}
 use Rattle.script_lang.specs.declared.command_line.WordsFault.TheVariants as fault
 use Rattle.script_lang.specs.Spelling.{number_within, last_64}
 
--- the options that are built so far: none
+-- the options that are built so far: that of a store
 abbrev pub options_built : Options
-options_built = record { store = false; workload = false }
+options_built = record { store = true; workload = false }
 
 -- ---- the store: `--store FOLDER`
 

@@ -29,9 +29,9 @@ pub struct Options {
     pub workload: bool,
 }
 
-/// The options that are built so far: none.
+/// The options that are built so far: that of a store.
 pub const OPTIONS_BUILT: Options = Options {
-    store: false,
+    store: true,
     workload: false,
 };
 

@@ -17,7 +17,7 @@ use std::alloc::Global;
 use thiserror::Error;
 
 /// The commands that are built so far: no other word begins a command.
-pub const BUILT: [Verb; 10] = [
+pub const BUILT: [Verb; 18] = [
     Verb::Map,
     Verb::Unmap,
     Verb::Shard,
@@ -25,6 +25,14 @@ pub const BUILT: [Verb; 10] = [
     Verb::Table,
     Verb::Add,
     Verb::Addpoint,
+    Verb::Delete,
+    Verb::Offline,
+    Verb::Online,
+    Verb::Move,
+    Verb::Split,
+    Verb::Merge,
+    Verb::Lock,
+    Verb::Unlock,
     Verb::Find,
     Verb::List,
     Verb::Shards,

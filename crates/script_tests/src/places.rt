@@ -11,6 +11,12 @@ const BOTH: Options = Options {
     workload: true,
 };
 
+/// No option in force.
+const NEITHER: Options = Options {
+    store: false,
+    workload: false,
+};
+
 /// The place at which words are bad, of which one space stands between two; 0 where they are accepted.
 fn place(alloc: Global, program: Program, options: Options, line: &[u8]) -> Result<u32, Fail> {
     let words = if line.is_empty() {
@@ -62,6 +68,7 @@ const WORDS_WITHOUT_OPTIONS: &[u8] = b"00
 #[test]
 fn words_without_options(rt: HostRuntime) -> Result<(), Fail> {
     let alloc = rt.alloc();
+    assert!(rt; all_are_told(alloc, Program::Ctl, NEITHER, WORDS_WITHOUT_OPTIONS)?);
     assert!(rt; all_are_told(alloc, Program::Ctl, OPTIONS_BUILT, WORDS_WITHOUT_OPTIONS)?);
     assert!(rt; all_are_told(alloc, Program::Ctl, BOTH, WORDS_WITHOUT_OPTIONS)?);
     assert!(rt; all_are_told(alloc, Program::Mux, BOTH, WORDS_WITHOUT_OPTIONS)?);
@@ -123,6 +130,7 @@ fn words_with_a_store(rt: HostRuntime) -> Result<(), Fail> {
     let alloc = rt.alloc();
     assert!(rt; all_are_told(alloc, Program::Ctl, BOTH, WORDS_WITH_A_STORE)?);
     assert!(rt; all_are_told(alloc, Program::Mux, BOTH, WORDS_WITH_A_STORE)?);
+    assert!(rt; all_are_told(alloc, Program::Ctl, OPTIONS_BUILT, WORDS_WITH_A_STORE)?);
     let fits = repeated(alloc, b"--store ", b'f', 255, b" s/a")?;
     assert_eq!(rt; place(alloc, Program::Ctl, BOTH, &fits)?, 0);
     let long = repeated(alloc, b"--store ", b'f', 256, b" s/a")?;
@@ -247,20 +255,47 @@ fn what_words_say(rt: HostRuntime) -> Result<(), Fail> {
     Ok(())
 }
 
-/// The public call has no option in force.
+/// The words of a line, of which one space stands between two.
+fn texts_of(alloc: Global, line: &str) -> Result<Vec<String>, Fail> {
+    let mut words: Vec<String> = Vec::new(alloc);
+    for word in line.split(' ') {
+        words.push(format!(in alloc; "{word}")?)?;
+    }
+    Ok(words)
+}
+
+/// The place at which the public call finds words bad; 0 where it accepts them.
+fn built_place(alloc: Global, program: Program, line: &str) -> Result<u32, Fail> {
+    match read_words(alloc, &texts_of(alloc, line)?, program) {
+        Ok(_) => Ok(0),
+        Err(WordsFault::At(place)) => Ok(place),
+        Err(WordsFault::Memory) => Err(Fail::from("out of memory")),
+    }
+}
+
+/// The public call has the option of a store in force, and no other.
 #[test]
 fn the_words_of_a_program(rt: HostRuntime) -> Result<(), Fail> {
     let alloc = rt.alloc();
-    let mut words: Vec<String> = Vec::new(alloc);
-    words.push(format!(in alloc; "s/a")?)?;
-    words.push(format!(in alloc; "s/b")?)?;
-    let two = read_words(alloc, &words, Program::Ctl);
-    assert!(rt; two.is_ok_and(|says| says.locations.as_slice().len() == 2));
-    words.push(format!(in alloc; "--store")?)?;
-    words.push(format!(in alloc; "f")?)?;
-    assert_eq!(rt;
-        read_words(alloc, &words, Program::Mux).err(),
-        Some(WordsFault::At(3))
-    );
+    for (line, wanted) in [
+        ("s/a s/b", 0),
+        ("--store f s/a s/b", 0),
+        ("--store", 2),
+        ("--store -f s/a", 2),
+        ("s/a s/b --store f", 3),
+        ("--store f s/a s/a", 4),
+        ("--workload 7 --count 1 s/a s/b", 1),
+        ("--store f --workload 7 --count 1 s/a s/b", 3),
+    ] {
+        assert!(rt; built_place(alloc, Program::Ctl, line)? == wanted, "{line}");
+        assert!(rt; built_place(alloc, Program::Mux, line)? == wanted, "{line}");
+    }
+    let words = texts_of(alloc, "--store f s/a s/b")?;
+    let says = read_words(alloc, &words, Program::Ctl)
+        .ok()
+        .ok_or("bad words")?;
+    let folder = says.folder.ok_or("no folder")?;
+    assert!(rt; folder.as_slice() == b"f".as_slice());
+    assert_eq!(rt; says.locations.as_slice().len(), 2);
     Ok(())
 }

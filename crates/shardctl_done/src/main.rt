@@ -1,4 +1,4 @@
-//! `shardctl`, run on a script of which nothing is refused: its exit status is 0.
+//! `shardctl`, run over files on a script of which nothing is refused: its exit status is 0.
 #![tactic(auto)]
 
 use shardctl_program::starting::start;

@@ -1,19 +1,19 @@
--- The world over which the program runs a script.
-use Rattle.std.specs.Prelude.{◌≡◌, ◌⊎◌, ℕ, List, []}
+-- The stores over which the program runs a script.
+use Rattle.std.specs.Prelude.{◌≡◌, List, Option, Some, None}
 use Rattle.cell_world.specs.Texts.{Text}
 use Rattle.cell_world.specs.Images.{empty_image}
-use Rattle.script_lang.specs.declared.programs.Program.TheVariants.{Ctl}
-use Rattle.script_lang.specs.declared.command_line.Words.{Words}
-use Rattle.script_lang.specs.CommandLine.{options_built, SaysWords, IsAccepted, IsBadAt}
-use Rattle.world_memory.specs.declared.world.MemoryWorld.{MemoryWorld}
-use Rattle.world_memory.specs.Memory.{outside_of}
-use Rattle.world_memory.specs.Told.{fresh}
+use Rattle.cell_world.specs.Outside.{Outside, Told, TellsNothing, TellsContents, IsNewWorld}
 
--- Its stores are empty, and these are its locations.
-abbrev pub IsFresh : List Text → MemoryWorld → Type 0
-IsFresh locations world = outside_of world ≡ fresh locations (empty_image locations)
+-- What stores tell when they are opened: without a folder they are empty, and tell their contents; in the files of a folder they tell their counts alone.
+abbrev pub first_told : Option Text → List Text → Told
+first_told None locations = TellsContents (empty_image locations)
+first_told (Some folder) locations = TellsNothing
 
--- It has the locations that accepted words name, and none where the words are bad.
-abbrev pub IsWorldOf : List Text → MemoryWorld → Type 0
-IsWorldOf words world = ((says : Words) × SaysWords Ctl options_built words says × IsFresh says.locations world)
-    ⊎ ((place : ℕ) × IsBadAt (IsAccepted Ctl options_built) words place × IsFresh [] world)
+-- a world over stores that were just opened
+pub record IsOpened (folder : Option Text) (locations : List Text) (old : Outside) : Type 0 where
+  -- nothing failed in it, and nothing was read
+  pub new : IsNewWorld old
+  -- it has these locations
+  pub over : old.locations ≡ locations
+  -- and tells this of its stores
+  pub told : old.told ≡ first_told folder locations

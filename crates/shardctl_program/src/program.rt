@@ -1,22 +1,31 @@
 //! The program over any words, input and output.
-ghost use Rattle.std.specs.Prelude.{◌≡◌, IfOk, [], map};
+ghost use Rattle.std.specs.Prelude.{◌≡◌, ◌≤◌, IfOk, [], None, Some, length, map};
+ghost use Rattle.std.specs.List.{IsDistinct};
 ghost use Rattle.std.specs.String.{string_bytes};
 ghost use Rattle.cell_world.specs.Images.{empty_image};
+ghost use Rattle.cell_world.specs.Keys.{same};
+ghost use Rattle.cell_world.specs.declared.limits.TheConstants.{MOST_LOCATIONS};
+ghost use Rattle.script_lang.specs.declared.programs.Program.TheVariants.{Ctl};
+ghost use Rattle.script_lang.specs.CommandLine.{options_built, SaysWords};
 ghost use Rattle.script_lang.specs.Endings.{exit_status};
 ghost use Rattle.world_memory.specs.Memory.{outside_of};
 ghost use Rattle.world_memory.specs.Told.{fresh};
-ghost use Rattle.shardctl_program.specs.Worlds.{IsWorldOf};
+ghost use Rattle.shardctl_program.specs.Runs.{Ran, IsUnopened, RunsOver, RunsSaid, Runs};
 
+use cell_world::locations::Location;
 use cell_world::memory::Memory;
+use cell_world::outside::{World, WorldError};
 use plain_model::finish::RunStatus;
-use script_lang::command_line::{WordsFault, read_words};
+use script_lang::command_line::{Words, WordsFault, read_words};
 use script_lang::endings::{exit_number, standard_error_line};
 use script_lang::programs::Program;
 use script_shell::shell::run_script;
 use script_shell::std_source::{StdSource, SteadyRead};
 use std::alloc::Global;
 use std::io::Write;
+use std::str;
 use world_memory::world::MemoryWorld;
+use world_sqlite::SqliteWorld;
 
 /// A world without locations, in which nothing happened yet.
 pub fn empty_world(alloc: Global) -> Result<MemoryWorld, Memory>
@@ -25,35 +34,109 @@ pub fn empty_world(alloc: Global) -> Result<MemoryWorld, Memory>
     MemoryWorld::new(alloc, &[])
 }
 
-/// A world with the locations that the words name, in which nothing happened yet; without locations where the words are bad.
-pub fn world_of(alloc: Global, words: &Vec<String>) -> Result<MemoryWorld, Memory>
-    ensures { IfOk result (IsWorldOf (map string_bytes words.now.items)) }
+/// Runs a script over a world.
+fn run_over<W: World + Drop, I: SteadyRead + Drop>(
+    alloc: Global,
+    words: &Vec<String>,
+    world: W,
+    input: I,
+) -> RunStatus
+    ensures { Ran (map string_bytes words.now.items) (I.remaining input) (W.outside world) result }
 {
-    match read_words(alloc, words, Program::Ctl) {
-        Ok(words) => MemoryWorld::new(alloc, words.locations.as_slice()),
-        Err(WordsFault::At(_)) => empty_world(alloc),
-        Err(WordsFault::Memory) => Err(Memory),
+    let mut source = StdSource::new(input);
+    let (finish, _world) = run_script(alloc, words, world, &mut source);
+    finish.status
+}
+
+/// The status of a run whose stores can't be opened.
+fn unopened(error: WorldError) -> RunStatus
+    ensures { IsUnopened result }
+{
+    match error {
+        WorldError::Failed => RunStatus::StoreFault,
+        WorldError::Memory => RunStatus::Memory,
     }
 }
 
-/// Runs a script over stores in memory, and then writes what it wrote.
-pub fn run<I: SteadyRead + Drop, O: Write>(
+/// Runs a script over empty stores in memory at these locations.
+fn run_in_memory<I: SteadyRead + Drop, O: Write + Drop>(
     alloc: Global,
     words: &Vec<String>,
+    locations: &[Location],
     input: I,
-    output: &mut O,
-) -> RunStatus {
-    let Ok(world) = world_of(alloc, words) else {
-        return RunStatus::Memory;
+    output: O,
+) -> RunStatus
+    requires distinct { IsDistinct same locations.now }
+    requires few { length locations.now ≤ MOST_LOCATIONS }
+    ensures { RunsOver (map string_bytes words.now.items) None locations.now (I.remaining input) result }
+{
+    match SqliteWorld::in_memory(alloc, output, locations) {
+        Ok(world) => run_over(alloc, words, world, input),
+        Err(error) => unopened(error),
+    }
+}
+
+/// Runs a script over the stores of these locations in the files of a folder.
+fn run_at_folder<I: SteadyRead + Drop, O: Write + Drop>(
+    rt: &HostRuntime,
+    words: &Vec<String>,
+    folder: &[u8],
+    locations: &[Location],
+    input: I,
+    output: O,
+) -> RunStatus
+    requires distinct { IsDistinct same locations.now }
+    requires few { length locations.now ≤ MOST_LOCATIONS }
+    ensures { RunsOver (map string_bytes words.now.items) (Some folder.now) locations.now (I.remaining input) result }
+{
+    // the folder is a word, and so it is a text
+    let Ok(folder) = str::from_utf8(folder) else {
+        return RunStatus::StoreFault;
     };
-    let mut source = StdSource::new(input);
-    let (finish, world) = run_script(alloc, words, world, &mut source);
-    let Ok(bytes) = world.output(alloc) else {
-        return RunStatus::Memory;
-    };
-    match output.write_all(bytes.as_slice()) {
-        Ok(()) => finish.status,
-        Err(_) => RunStatus::WriteFault,
+    match SqliteWorld::at_folder(rt, folder, output, locations) {
+        Ok(world) => run_over(rt.alloc(), words, world, input),
+        Err(error) => unopened(error),
+    }
+}
+
+/// Runs a script over the stores that the words name.
+fn run_said<I: SteadyRead + Drop, O: Write + Drop>(
+    rt: &HostRuntime,
+    words: &Vec<String>,
+    says: &Words,
+    input: I,
+    output: O,
+) -> RunStatus
+    requires says { SaysWords Ctl options_built (map string_bytes words.now.items) says.now }
+    ensures { RunsSaid (map string_bytes words.now.items) (I.remaining input) result }
+{
+    let locations = says.locations.as_slice();
+    match &says.folder {
+        Some(folder) => run_at_folder(rt, words, folder.as_slice(), locations, input, output),
+        None => run_in_memory(rt.alloc(), words, locations, input, output),
+    }
+}
+
+/// Runs a script, and writes each reply when its command is done.
+///
+/// With `--store FOLDER` the stores are files, which stay; without it they are in memory, and gone at the end. Files
+/// that aren't there are made before the script is read.
+pub fn run<I: SteadyRead + Drop, O: Write + Drop>(
+    rt: &HostRuntime,
+    words: &Vec<String>,
+    input: I,
+    output: O,
+) -> RunStatus
+    // From the empty stores of the words on in memory, and from whatever the files of a folder hold: all that a run of a script promises.
+    ensures { Runs (map string_bytes words.now.items) (I.remaining input) result }
+{
+    match read_words(rt.alloc(), words, Program::Ctl) {
+        Ok(says) => run_said(rt, words, &says, input, output),
+        Err(WordsFault::At(_)) => match empty_world(rt.alloc()) {
+            Ok(world) => run_over(rt.alloc(), words, world, input),
+            Err(Memory) => RunStatus::Memory,
+        },
+        Err(WordsFault::Memory) => RunStatus::Memory,
     }
 }
 

@@ -37,7 +37,7 @@ fn words_of(rt: &HostRuntime) -> Result<Vec<String>, Memory> {
 /// Runs the script on standard input, and tells on standard error how it ended.
 pub fn start(rt: &HostRuntime) -> ExitCode {
     let status = match words_of(rt) {
-        Ok(words) => run(rt.alloc(), &words, rt.stdin(), &mut rt.stdout()),
+        Ok(words) => run(rt, &words, rt.stdin(), rt.stdout()),
         Err(Memory) => RunStatus::Memory,
     };
     ExitCode::from(tell(rt.alloc(), &status, &mut rt.stderr()))

@@ -1,4 +1,4 @@
-//! `shardctl`, run with a word, which is not accepted: its exit status is 2, and nothing is done.
+//! `shardctl`, run with `--store` and no folder: its exit status is 2, and nothing is done.
 #![tactic(auto)]
 
 use shardctl_program::starting::start;
