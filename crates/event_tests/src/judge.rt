@@ -1,5 +1,5 @@
-//! A judge of stores, by what stands in them alone: no key is online at two sites, and where one is online its mapping
-//! says so.
+//! A judge of stores, by what stands in them alone: no key is online at two sites, and the rows that count say what the
+//! mappings say.
 
 use crate::words::{here, key, map, there};
 use cell_world::cells::{Cell, CellKey, LocalRow, Mark, Status};
@@ -62,45 +62,79 @@ fn is_coming(logged: &[Op], number: u64, key: &NormKey, at: &Location) -> bool {
     })
 }
 
-/// Whether the mapping of the key is at the location and online. A new row may be there first, while the operation that
-/// made it is logged, and no mapping has the key.
-fn is_backed(
-    row: &LocalRow,
+/// Whether the operation of this number is logged.
+fn is_logged(logged: &[Op], number: u64) -> bool {
+    logged.iter().any(|op| op.number == number)
+}
+
+/// Whether the row counts: it is plain, or old of an operation that is logged, or new of one that isn't.
+fn counts(row: &LocalRow, logged: &[Op]) -> bool {
+    match row.mark {
+        Mark::Plain => true,
+        Mark::Old(number) => is_logged(logged, number),
+        Mark::New => !is_logged(logged, row.number),
+    }
+}
+
+/// Whether the rows at the location that count say of the key what its mapping says: just one has it, with the status of
+/// the mapping, where the mapping is there; and else none.
+fn say_as_mapped(
+    rows: &[Cell],
     mappings: &[Piece],
     logged: &[Op],
     key: &NormKey,
     at: &Location,
 ) -> bool {
-    match mappings.iter().find(|piece| piece.span.contains(key)) {
-        Some(piece) => piece.status == Status::Online && piece.location.cmp(at).is_eq(),
-        None => row.mark == Mark::New && is_coming(logged, row.number, key, at),
+    let mapping = mappings.iter().find(|piece| piece.span.contains(key)
+        && piece.location.cmp(at).is_eq());
+    let mut found = false;
+    for cell in rows {
+        if let Cell::Local(row) = cell
+            && row.span.contains(key)
+            && counts(row, logged)
+        {
+            match mapping {
+                Some(piece) if piece.status == row.status && !found => found = true,
+                _ => return false,
+            }
+        }
     }
+    found == mapping.is_some()
 }
 
-/// Whether each row at the location that is online over one of the keys from 0 to 9 has its mapping.
+/// Whether a row that doesn't count has its cause: it is old, of an operation that was committed; or new, of one that is logged and makes a
+/// mapping there.
+fn has_its_cause(row: &LocalRow, logged: &[Op], key: &NormKey, at: &Location) -> bool {
+    row.mark != Mark::New || is_coming(logged, row.number, key, at)
+}
+
+/// Whether each of the rows at the location that have the key counts, or has its cause.
+fn have_their_cause(rows: &[Cell], logged: &[Op], key: &NormKey, at: &Location) -> bool {
+    rows.iter().all(|cell| match cell {
+        Cell::Local(row) => {
+            !row.span.contains(key) || counts(row, logged) || has_its_cause(row, logged, key, at)
+        }
+        _ => false,
+    })
+}
+
+/// Whether the rows at the location say of each of the keys from 0 to 9 what its mapping says, and the others have their cause.
 fn are_backed(alloc: Global, world: &mut MemoryWorld, at: &Location) -> Result<bool, Fail> {
     let rows = rows_at(alloc, world, at)?;
     let mappings = pieces_of(alloc, world, &map()?)?;
     let logged = log_rows(alloc, world)?;
     for number in 0..10 {
         let key = key(number)?;
-        let backed = rows.iter().all(|cell| match cell {
-            Cell::Local(row) => {
-                row.status == Status::Offline
-                    || !row.span.contains(&key)
-                    || is_backed(row, &mappings, &logged, &key, at)
-            }
-            _ => false,
-        });
-        if !backed {
+        if !say_as_mapped(&rows, &mappings, &logged, &key, at)
+            || !have_their_cause(&rows, &logged, &key, at)
+        {
             return Ok(false);
         }
     }
     Ok(true)
 }
 
-/// Whether each of the keys from 0 to 9 is online at one site at most, and each row that is online over one has its
-/// mapping.
+/// Whether each of the keys from 0 to 9 is online at one site at most, and the rows say of it what its mapping says.
 pub(crate) fn is_judged_sound(alloc: Global, world: &mut MemoryWorld) -> Result<bool, Fail> {
     Ok(
         are_online_once(alloc, world)?

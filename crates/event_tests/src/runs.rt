@@ -13,6 +13,7 @@ use plain_model::history::History;
 use plain_model::replies::Sort;
 use std::alloc::Global;
 use std::test::Fail;
+use world_memory::faults::FaultPlan;
 use world_memory::world::MemoryWorld;
 
 pub(crate) const GOOD: Outcome = Outcome::Ended(Sort::Good);
@@ -137,6 +138,38 @@ impl Run {
     /// How much has happened.
     pub(crate) fn moment(&self) -> u64 {
         self.core.world.moment()
+    }
+
+    /// The same core, in which the calls of the plan fail, counted from now on.
+    pub(crate) fn failing(self, plan: FaultPlan) -> Run {
+        let Run { core, tagged } = self;
+        let Core {
+            world,
+            journal,
+            known,
+            doings,
+            stop,
+        } = core;
+        let core = Core {
+            world: world.with_faults(plan),
+            journal,
+            known,
+            doings,
+            stop,
+        };
+        Run { core, tagged }
+    }
+
+    /// What a crash would leave now.
+    pub(crate) fn image(&self, alloc: Global) -> Result<MemoryWorld, Fail> {
+        let world = &self.core.world;
+        Ok(world.crashed(alloc, world.moment())?)
+    }
+
+    /// The core ends, whatever becomes of what its sessions left to settle.
+    pub(crate) fn stop(self, alloc: Global) -> (Over, Tail) {
+        let (history, tail, world) = self.core.finish(alloc);
+        (Over { history, world }, tail)
     }
 
     /// The core ends.

@@ -2,7 +2,7 @@
 
 use crate::judge::is_judged_sound;
 use crate::runs::{REFUSED, Run};
-use crate::stores::store;
+use crate::stores::{crashed, store};
 use crate::words::{here, there};
 use cell_world::outside::World;
 use manager_core::manager::Outcome;
@@ -50,16 +50,8 @@ fn reopened(alloc: Global, world: MemoryWorld) -> Result<MemoryWorld, Fail> {
     Ok(over.world)
 }
 
-/// The world that a crash at the moment leaves.
-fn crashed(alloc: Global, world: &MemoryWorld, moment: u64) -> Result<MemoryWorld, Fail> {
-    if moment > world.moment() {
-        return Err(Fail::from("no moment"));
-    }
-    Ok(world.crashed(alloc, moment)?)
-}
-
 /// Whether each image of the world is sound.
-fn are_sound(alloc: Global, world: &MemoryWorld) -> Result<bool, Fail> {
+pub(crate) fn are_sound(alloc: Global, world: &MemoryWorld) -> Result<bool, Fail> {
     for moment in 0..=world.moment() {
         let mut image = crashed(alloc, world, moment)?;
         if !is_judged_sound(alloc, &mut image)? {

@@ -36,8 +36,8 @@ impl SteadyRead for Reader {
 
 /// A writer that takes at most so many bytes at once and so many in all. What is past them fails, or isn't taken.
 #[derive(Drop)]
-struct Writer {
-    taken: Vec<u8>,
+pub(crate) struct Writer {
+    pub(crate) taken: Vec<u8>,
     most: usize,
     room: usize,
     fails: bool,
@@ -61,6 +61,16 @@ impl Write for Writer {
     }
 }
 
+/// A writer that takes so many bytes, and then fails.
+pub(crate) fn failing_after(alloc: Global, room: usize) -> Writer {
+    Writer {
+        taken: Vec::new(alloc),
+        most: 1000,
+        room,
+        fails: true,
+    }
+}
+
 /// A writer with room for all.
 fn with_room(alloc: Global, most: usize) -> Writer {
     Writer {
@@ -80,16 +90,16 @@ struct Ran {
 }
 
 /// Runs the program without words.
-fn run_on(alloc: Global, input: Reader, output: Writer) -> Ran {
-    run_with(alloc, Vec::new(alloc), input, output)
+fn run_on(rt: &HostRuntime, input: Reader, output: Writer) -> Ran {
+    run_with(rt, Vec::new(rt.alloc()), input, output)
 }
 
 /// Runs the program.
-fn run_with(alloc: Global, words: Vec<String>, input: Reader, output: Writer) -> Ran {
+fn run_with(rt: &HostRuntime, words: Vec<String>, input: Reader, output: Writer) -> Ran {
     let mut output = output;
-    let mut errors = with_room(alloc, 1000);
-    let status = run(alloc, &words, input, &mut output);
-    let status = tell(alloc, &status, &mut errors);
+    let mut errors = with_room(rt.alloc(), 1000);
+    let status = run(rt, &words, input, &mut output);
+    let status = tell(rt.alloc(), &status, &mut errors);
     Ran {
         status,
         output,
@@ -119,14 +129,14 @@ const TWICE: &[u8] = b"map m range int\nmap m range int\n";
 #[test]
 fn each_end_has_its_status_and_its_line(rt: HostRuntime) {
     let alloc = rt.alloc();
-    let done = run_on(alloc, all(b"map m range int\n"), with_room(alloc, 1000));
+    let done = run_on(&rt, all(b"map m range int\n"), with_room(alloc, 1000));
     assert!(rt; is(&done, 0, b"ok\n", b""));
-    let empty = run_on(alloc, all(b""), with_room(alloc, 1000));
+    let empty = run_on(&rt, all(b""), with_room(alloc, 1000));
     assert!(rt; is(&empty, 0, b"", b""));
-    let refused = run_on(alloc, all(TWICE), with_room(alloc, 1000));
+    let refused = run_on(&rt, all(TWICE), with_room(alloc, 1000));
     assert!(rt; is(&refused, 1, b"ok\nmap-exists\n", b""));
     let faulty = run_on(
-        alloc,
+        &rt,
         all(b"map m range int\nmap n\n"),
         with_room(alloc, 1000),
     );
@@ -138,7 +148,7 @@ fn words_are_not_dropped(rt: HostRuntime) -> Result<(), Fail> {
     let alloc = rt.alloc();
     let mut words: Vec<String> = Vec::new(alloc);
     words.push(format!(in alloc; "x")?)?;
-    let worded = run_with(alloc, words, all(TWICE), with_room(alloc, 1000));
+    let worded = run_with(&rt, words, all(TWICE), with_room(alloc, 1000));
     assert!(rt; is(&worded, 2, b"", b"shardctl: bad words at 1\n"));
     Ok(())
 }
@@ -152,7 +162,7 @@ fn a_read_error_is_not_the_end(rt: HostRuntime) {
             most,
             fails: true,
         };
-        let failed = run_on(alloc, reader, with_room(alloc, 1000));
+        let failed = run_on(&rt, reader, with_room(alloc, 1000));
         assert!(rt; is(&failed, 3, b"", b"shardctl: read fault\n"), "by {most}");
     }
 }
@@ -166,7 +176,7 @@ fn a_short_read_is_not_the_end(rt: HostRuntime) {
             most,
             fails: false,
         };
-        let read = run_on(alloc, reader, with_room(alloc, 1000));
+        let read = run_on(&rt, reader, with_room(alloc, 1000));
         assert!(rt; is(&read, 1, b"ok\nmap-exists\n", b""), "by {most}");
     }
 }
@@ -187,7 +197,7 @@ fn a_failed_write_is_told(rt: HostRuntime) {
             room,
             fails,
         };
-        let failed = run_on(alloc, all(TWICE), output);
+        let failed = run_on(&rt, all(TWICE), output);
         assert!(rt;
             is(&failed, 4, taken, b"shardctl: write fault\n"),
             "room {room}"
@@ -199,7 +209,7 @@ fn a_failed_write_is_told(rt: HostRuntime) {
 fn a_short_write_goes_on(rt: HostRuntime) {
     let alloc = rt.alloc();
     for most in [1, 2, 13] {
-        let written = run_on(alloc, all(TWICE), with_room(alloc, most));
+        let written = run_on(&rt, all(TWICE), with_room(alloc, most));
         assert!(rt; is(&written, 1, b"ok\nmap-exists\n", b""), "by {most}");
     }
 }
@@ -210,7 +220,7 @@ fn too_long_a_script_is_told(rt: HostRuntime) -> Result<(), Fail> {
     let script = vec![in alloc; b'x'; 1_048_577]?;
     let words: Vec<String> = Vec::new(alloc);
     let mut output = with_room(alloc, 1000);
-    let status = run(alloc, &words, script.as_slice(), &mut output);
+    let status = run(&rt, &words, script.as_slice(), &mut output);
     assert!(rt; status == RunStatus::TooLong);
     assert!(rt; output.taken.is_empty());
     assert_eq!(rt; tell(alloc, &status, &mut output), 7);

@@ -1,21 +1,24 @@
 //! Scripts as tests, over the world and the source in memory.
+use crate::worlds::{is_so_over_sqlite, world_of};
 use cell_world::cells::{Cell, KeyType, MapKind, Site};
 use cell_world::changes::Change;
 use cell_world::locations::Location;
 use cell_world::names::Name;
 use cell_world::outside::World;
 use plain_model::finish::{Reason, RunStatus};
+use plain_model::history::History;
 use script_shell::shell::run_script;
-use shardctl_program::program::{empty_world, world_of};
+use shardctl_program::program::empty_world;
 use std::alloc::Global;
 use std::test::Fail;
 use world_memory::source::MemorySource;
 use world_memory::world::MemoryWorld;
 
-/// How a run ended, and the world after it.
+/// How a run ended, what was asked and answered in it, and the world after it.
 #[derive(Drop)]
 pub(crate) struct Ran {
     pub(crate) status: RunStatus,
+    pub(crate) history: History,
     pub(crate) world: MemoryWorld,
 }
 
@@ -30,6 +33,7 @@ pub(crate) fn run_with(
     let (finish, world) = run_script(alloc, words, world, &mut source);
     Ran {
         status: finish.status,
+        history: finish.history,
         world,
     }
 }
@@ -48,11 +52,16 @@ pub(crate) fn words_in(alloc: Global, line: &str) -> Result<Vec<String>, Fail> {
     Ok(words)
 }
 
-/// Runs a script over empty stores at the locations of the words.
+/// Runs a script over empty stores at the locations of the words; over `sqlite` in memory it must end so too, with
+/// the same replies.
 pub(crate) fn run_at(alloc: Global, line: &str, script: &[u8]) -> Result<Ran, Fail> {
     let words = words_in(alloc, line)?;
     let world = world_of(alloc, &words)?;
-    Ok(run_with(alloc, &words, world, script.to_vec(alloc)?))
+    let ran = run_with(alloc, &words, world, script.to_vec(alloc)?);
+    if !is_so_over_sqlite(alloc, &words, script, &ran)? {
+        return Err("over `sqlite` it ends otherwise".into());
+    }
+    Ok(ran)
 }
 
 /// Whether a run had this status and wrote this.
@@ -120,7 +129,7 @@ fn a_bad_line_is_found_before_anything_is_done(rt: HostRuntime) -> Result<(), Fa
     );
     assert_eq!(rt; after.world.moment(), 0);
     // a command that isn't built yet is unknown
-    let after = run_over(alloc, empty_world(alloc)?, b"delete m 0\n".to_vec(alloc)?);
+    let after = run_over(alloc, empty_world(alloc)?, b"open 1 m 0\n".to_vec(alloc)?);
     assert!(rt; after.status == RunStatus::BadScript(1, Reason::UnknownCommand));
     Ok(())
 }

@@ -1,0 +1,68 @@
+//! Commands on mappings that stand, in the map of the tests.
+ghost use Rattle.std.specs.Prelude.{◌≡◌, IfOk, true};
+ghost use Rattle.map_ops.specs.Planning.{is_asked};
+
+use crate::words::{map, word};
+use cell_world::cells::Token;
+use cell_world::locations::Location;
+use plain_model::commands::Command;
+use std::test::Fail;
+
+/// The token of the tests.
+pub(crate) const TOKEN: Token = Token(1 << 64);
+
+/// `offline m KEY`.
+pub(crate) fn offline(key: &[u8]) -> Result<Command, Fail>
+    ensures { IfOk result (λ command. is_asked command ≡ true) }
+{
+    Ok(Command::Offline(map()?, word(key)?, None))
+}
+
+/// `online m KEY`.
+pub(crate) fn online(key: &[u8]) -> Result<Command, Fail>
+    ensures { IfOk result (λ command. is_asked command ≡ true) }
+{
+    Ok(Command::Online(map()?, word(key)?, None))
+}
+
+/// `delete m KEY`.
+pub(crate) fn delete(key: &[u8]) -> Result<Command, Fail>
+    ensures { IfOk result (λ command. is_asked command ≡ true) }
+{
+    Ok(Command::Delete(map()?, word(key)?, None))
+}
+
+/// `move m KEY LOCATION`.
+pub(crate) fn move_to(key: &[u8], at: Location) -> Result<Command, Fail>
+    ensures { IfOk result (λ command. is_asked command ≡ true) }
+{
+    Ok(Command::Move(map()?, word(key)?, at, None))
+}
+
+/// `split m KEY`, with a token or without.
+pub(crate) fn split(key: &[u8], token: Option<Token>) -> Result<Command, Fail>
+    ensures { IfOk result (λ command. is_asked command ≡ true) }
+{
+    Ok(Command::Split(map()?, word(key)?, token))
+}
+
+/// `merge m KEY`.
+pub(crate) fn merge(key: &[u8]) -> Result<Command, Fail>
+    ensures { IfOk result (λ command. is_asked command ≡ true) }
+{
+    Ok(Command::Merge(map()?, word(key)?, None))
+}
+
+/// `lock m KEY TOKEN`.
+pub(crate) fn lock(key: &[u8]) -> Result<Command, Fail>
+    ensures { IfOk result (λ command. is_asked command ≡ true) }
+{
+    Ok(Command::Lock(map()?, word(key)?, TOKEN))
+}
+
+/// `unlock m KEY TOKEN`.
+pub(crate) fn unlock(key: &[u8]) -> Result<Command, Fail>
+    ensures { IfOk result (λ command. is_asked command ≡ true) }
+{
+    Ok(Command::Unlock(map()?, word(key)?, TOKEN))
+}
