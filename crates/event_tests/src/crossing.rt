@@ -1,9 +1,9 @@
 //! A move of one session beside a split of another.
 
-use crate::commands::{delete, merge, move_to, online, split};
-use crate::runs::{GOOD, REFUSED, Run};
-use crate::stores::one_offline;
-use crate::words::{map, there};
+use event_runs::runs::{GOOD, REFUSED, Run};
+use event_runs::stores::one_offline;
+use event_runs::turns::{Turn, Verb};
+use event_runs::words::{map, there};
 use manager_core::manager::Outcome;
 use plain_model::commands::Command;
 use std::alloc::Global;
@@ -11,12 +11,11 @@ use std::test::Fail;
 
 /// Two sessions over two ranges, of which the first asked to move the one from 0 to 10, which is offline. Its operation is the fourth.
 fn moving(alloc: Global) -> Result<Run, Fail> {
-    let mut run = Run::start(alloc, one_offline(alloc)?, 2, true)?;
-    if run.ask(alloc, 1, move_to(b"0", there()?)?)? == Outcome::Going(4) {
-        Ok(run)
-    } else {
-        Err(Fail::from("it isn't going"))
-    }
+    let run = Run::start(alloc, one_offline(alloc)?, 2, true)?;
+    run.after(
+        alloc,
+        &[(1, Turn::Ask(Verb::MoveThere, 0), Outcome::Going(4))],
+    )
 }
 
 /// Each goes on by turns, and the split ends first.
@@ -24,14 +23,16 @@ fn moving(alloc: Global) -> Result<Run, Fail> {
 fn a_split_beside_a_move_goes(rt: HostRuntime) -> Result<(), Fail> {
     let alloc = rt.alloc();
     let mut run = moving(alloc)?;
-    let begun = run.ask(alloc, 2, split(b"14", None)?)?;
-    assert_eq!(rt; begun, Outcome::Going(5));
-    assert_eq!(rt; run.go(alloc, 1)?, Outcome::Going(4));
-    assert_eq!(rt; run.go(alloc, 2)?, Outcome::Going(5));
-    assert_eq!(rt; run.go(alloc, 1)?, Outcome::Going(4));
-    assert_eq!(rt; run.go(alloc, 2)?, GOOD);
-    assert_eq!(rt; run.go(alloc, 1)?, GOOD);
-    assert_eq!(rt; run.ask(alloc, 2, Command::List(map()?))?, GOOD);
+    let turns = [
+        (2, Turn::Ask(Verb::Split, 14), Outcome::Going(5)),
+        (1, Turn::Go, Outcome::Going(4)),
+        (2, Turn::Go, Outcome::Going(5)),
+        (1, Turn::Go, Outcome::Going(4)),
+        (2, Turn::Go, GOOD),
+        (1, Turn::Go, GOOD),
+        (2, Turn::List, GOOD),
+    ];
+    assert_eq!(rt; run.first_other(alloc, &turns)?, None);
     let wanted = b"2 ok
 1 ok
 2 mappings 3
@@ -52,16 +53,18 @@ fn a_split_beside_a_move_goes(rt: HostRuntime) -> Result<(), Fail> {
 fn a_split_of_what_moves_waits(rt: HostRuntime) -> Result<(), Fail> {
     let alloc = rt.alloc();
     let mut run = moving(alloc)?;
-    for _ in 0..2 {
-        assert_eq!(rt; run.ask(alloc, 2, split(b"5", None)?)?, REFUSED);
-        assert_eq!(rt; run.go(alloc, 1)?, Outcome::Going(4));
-    }
-    assert_eq!(rt; run.ask(alloc, 2, split(b"5", None)?)?, REFUSED);
-    assert_eq!(rt; run.go(alloc, 1)?, GOOD);
-    let begun = run.ask(alloc, 2, split(b"5", None)?)?;
-    assert_eq!(rt; begun, Outcome::Going(5));
-    assert_eq!(rt; run.go_on(alloc, 2)?, GOOD);
-    assert_eq!(rt; run.ask(alloc, 1, Command::List(map()?))?, GOOD);
+    let turns = [
+        (2, Turn::Ask(Verb::Split, 5), REFUSED),
+        (1, Turn::Go, Outcome::Going(4)),
+        (2, Turn::Ask(Verb::Split, 5), REFUSED),
+        (1, Turn::Go, Outcome::Going(4)),
+        (2, Turn::Ask(Verb::Split, 5), REFUSED),
+        (1, Turn::Go, GOOD),
+        (2, Turn::Ask(Verb::Split, 5), Outcome::Going(5)),
+        (2, Turn::GoOn, GOOD),
+        (1, Turn::List, GOOD),
+    ];
+    assert_eq!(rt; run.first_other(alloc, &turns)?, None);
     let wanted = b"2 pending 4
 2 pending 4
 2 pending 4
@@ -76,19 +79,24 @@ fn a_split_of_what_moves_waits(rt: HostRuntime) -> Result<(), Fail> {
     Ok(())
 }
 
+/// Session 2 asks `unshard m s/b`.
+fn unshard_there(alloc: Global, run: &mut Run) -> Result<Outcome, Fail> {
+    run.ask(alloc, 2, Command::Unshard(map()?, there()?))
+}
+
 #[test]
 fn each_command_on_what_moves_waits(rt: HostRuntime) -> Result<(), Fail> {
     let alloc = rt.alloc();
     let mut run = moving(alloc)?;
-    assert_eq!(rt; run.ask(alloc, 2, online(b"9")?)?, REFUSED);
-    assert_eq!(rt; run.ask(alloc, 2, delete(b"0")?)?, REFUSED);
-    assert_eq!(rt; run.ask(alloc, 2, move_to(b"0", there()?)?)?, REFUSED);
-    assert_eq!(rt;
-        run.ask(alloc, 2, Command::Unshard(map()?, there()?))?,
-        REFUSED
-    );
+    let turns = [
+        (2, Turn::Ask(Verb::Online, 9), REFUSED),
+        (2, Turn::Ask(Verb::Delete, 0), REFUSED),
+        (2, Turn::Ask(Verb::MoveThere, 0), REFUSED),
+    ];
+    assert_eq!(rt; run.first_other(alloc, &turns)?, None);
+    assert_eq!(rt; unshard_there(alloc, &mut run)?, REFUSED);
     // the refusal comes before: the two ranges have other statuses
-    assert_eq!(rt; run.ask(alloc, 2, merge(b"0")?)?, REFUSED);
+    assert_eq!(rt; run.take(alloc, 2, Turn::Ask(Verb::Merge, 0))?, REFUSED);
     assert_eq!(rt;
         run.output(alloc)?.as_slice(),
         b"2 pending 4\n2 pending 4\n2 pending 4\n2 pending 4\n2 not-mergeable\n".as_slice()

@@ -2,18 +2,16 @@
 ghost use Rattle.std.specs.Prelude.{IfOk, IsTrue};
 ghost use Rattle.cell_world.specs.Spelled.{is_spelled};
 
-use crate::runs::Run;
-use crate::stores::store;
-use crate::words::{here, key, map};
 use cell_world::cells::{Cell, Status};
 use cell_world::operations::{Extra, Op, Piece, Pieces};
 use cell_world::spans::{High, Span};
-use global_tables::lists::log_rows;
+use event_runs::listing::{listed, logged};
+use event_runs::stores::store;
+use event_runs::words::{here, key, map};
 use op_steps::advancing::advance;
 use op_steps::beginning::{Begun, begin};
 use op_steps::live::LiveList;
 use op_steps::stages::Stage;
-use plain_model::commands::Command;
 use std::alloc::Global;
 use std::test::Fail;
 use world_memory::world::MemoryWorld;
@@ -76,20 +74,6 @@ fn left_after(alloc: Global, stages: u32) -> Result<MemoryWorld, Fail> {
         },
         Err(fail) => Err(fail),
     }
-}
-
-/// How many operations are logged.
-pub(crate) fn logged(alloc: Global, world: &mut MemoryWorld) -> Result<usize, Fail> {
-    Ok(log_rows(alloc, world)?.len())
-}
-
-/// What `list m` writes in a new run over the world, and how many operations are logged after it.
-pub(crate) fn listed(alloc: Global, world: MemoryWorld) -> Result<(Vec<u8>, usize), Fail> {
-    let mut run = Run::start(alloc, world, 1, false)?;
-    let _ended = run.ask(alloc, 1, Command::List(map()?))?;
-    let written = run.output(alloc)?;
-    let mut over = run.end(alloc)?;
-    Ok((written, logged(alloc, &mut over.world)?))
 }
 
 /// How many operations are logged before the opening and after it, and what `list m` then writes.

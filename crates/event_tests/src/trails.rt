@@ -1,12 +1,13 @@
 //! What a script makes of empty stores, event for event, and what a crash leaves of it.
 
-use crate::judge::rows_at;
-use crate::opening::{listed, logged};
-use crate::runs::{GOOD, Run};
-use crate::stores::empty_world;
-use crate::words::{here, map};
 use cell_world::cells::{Cell, KeyType, MapKind, Mark};
 use cell_world::outside::World;
+use event_runs::judge::rows_at;
+use event_runs::listing::{listed, logged};
+use event_runs::runs::{GOOD, Run};
+use event_runs::stores::{crashed, empty_world};
+use event_runs::turns::Turn;
+use event_runs::words::{here, map};
 use global_tables::lists::pieces_of;
 use manager_core::manager::Outcome;
 use plain_model::commands::Command;
@@ -17,9 +18,9 @@ use world_memory::world::MemoryWorld;
 /// `map m range int`, `shard m s/a`: each makes one transaction and writes its line.
 fn with_map(alloc: Global) -> Result<Run, Fail> {
     let mut run = Run::start(alloc, empty_world(alloc)?, 1, false)?;
-    let command = Command::Map(map()?, MapKind::Range, KeyType::Int);
-    let made = run.ask(alloc, 1, command)?;
-    let shard = run.ask(alloc, 1, Command::Shard(map()?, here()?))?;
+    let map = map()?;
+    let made = run.ask(alloc, 1, Command::Map(map, MapKind::Range, KeyType::Int))?;
+    let shard = run.ask(alloc, 1, Command::Shard(map, here()?))?;
     if made == GOOD && shard == GOOD {
         Ok(run)
     } else {
@@ -27,18 +28,24 @@ fn with_map(alloc: Global) -> Result<Run, Fail> {
     }
 }
 
-/// `add m 0 10 s/a` up to its end. How much has happened before it, after each event, and once the core has ended.
-fn added(alloc: Global) -> Result<(Vec<u64>, MemoryWorld), Fail> {
-    let mut run = with_map(alloc)?;
-    let mut moments = Vec::new(alloc);
-    moments.push(run.moment())?;
-    let mut outcome = run.add(alloc, 1, b"0", b"10", here()?)?;
+/// `add m 0 10 s/a` up to its end. Adds how much has happened after each event.
+fn add_whole(alloc: Global, run: &mut Run, moments: &mut Vec<u64>) -> Result<(), Fail> {
+    let mut outcome = run.take(alloc, 1, Turn::Add(0, 10))?;
     for _ in 0..3 {
         moments.push(run.moment())?;
         if outcome == Outcome::Going(1) {
             outcome = run.go(alloc, 1)?;
         }
     }
+    Ok(())
+}
+
+/// How much has happened before the `add`, after each of its events, and once the core has ended.
+fn added(alloc: Global) -> Result<(Vec<u64>, MemoryWorld), Fail> {
+    let mut run = with_map(alloc)?;
+    let mut moments = Vec::new(alloc);
+    moments.push(run.moment())?;
+    add_whole(alloc, &mut run, &mut moments)?;
     let over = run.end(alloc)?;
     moments.push(over.world.moment())?;
     Ok((moments, over.world))
@@ -76,10 +83,7 @@ fn mark_of(rows: &[Cell]) -> Result<Option<Mark>, Fail> {
 
 /// What a crash at the moment leaves.
 fn left_after(alloc: Global, world: &MemoryWorld, moment: u64) -> Result<Left, Fail> {
-    if moment > world.moment() {
-        return Err(Fail::from("no moment"));
-    }
-    let mut image = world.crashed(alloc, moment)?;
+    let mut image = crashed(alloc, world, moment)?;
     let rows = rows_at(alloc, &mut image, &here()?)?;
     Ok(Left {
         logged: logged(alloc, &mut image)?,
@@ -121,10 +125,7 @@ fn each_transaction_puts_its_cells(rt: HostRuntime) -> Result<(), Fail> {
 
 /// What `list m` writes in a new run after a crash at the moment, where no operation is logged any more.
 fn listed_after(alloc: Global, world: &MemoryWorld, moment: u64) -> Result<Vec<u8>, Fail> {
-    if moment > world.moment() {
-        return Err(Fail::from("no moment"));
-    }
-    let (written, logged) = listed(alloc, world.crashed(alloc, moment)?)?;
+    let (written, logged) = listed(alloc, crashed(alloc, world, moment)?)?;
     if logged == 0 {
         Ok(written)
     } else {

@@ -1,6 +1,7 @@
 //! A judge of stores, by what stands in them alone: no key is online at two sites, and the rows that count say what the
 //! mappings say.
 
+use crate::stores::crashed;
 use crate::words::{here, key, map, there};
 use cell_world::cells::{Cell, CellKey, LocalRow, Mark, Status};
 use cell_world::locations::Location;
@@ -14,11 +15,7 @@ use std::test::Fail;
 use world_memory::world::MemoryWorld;
 
 /// The local rows at a location.
-pub(crate) fn rows_at(
-    alloc: Global,
-    world: &mut MemoryWorld,
-    at: &Location,
-) -> Result<Vec<Cell>, Fail> {
+pub fn rows_at(alloc: Global, world: &mut MemoryWorld, at: &Location) -> Result<Vec<Cell>, Fail> {
     let from = CellKey::Local(Name::least(), key(0)?, 0);
     match world.locate(at) {
         None => Err(Fail::from("no such location")),
@@ -135,10 +132,21 @@ fn are_backed(alloc: Global, world: &mut MemoryWorld, at: &Location) -> Result<b
 }
 
 /// Whether each of the keys from 0 to 9 is online at one site at most, and the rows say of it what its mapping says.
-pub(crate) fn is_judged_sound(alloc: Global, world: &mut MemoryWorld) -> Result<bool, Fail> {
+pub fn is_judged_sound(alloc: Global, world: &mut MemoryWorld) -> Result<bool, Fail> {
     Ok(
         are_online_once(alloc, world)?
             && are_backed(alloc, world, &here()?)?
             && are_backed(alloc, world, &there()?)?,
     )
+}
+
+/// Whether each image of the world is sound.
+pub fn are_sound(alloc: Global, world: &MemoryWorld) -> Result<bool, Fail> {
+    for moment in 0..=world.moment() {
+        let mut image = crashed(alloc, world, moment)?;
+        if !is_judged_sound(alloc, &mut image)? {
+            return Ok(false);
+        }
+    }
+    Ok(true)
 }

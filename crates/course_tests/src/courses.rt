@@ -2,13 +2,13 @@
 ghost use Rattle.std.specs.Prelude.{◌≡◌, true};
 ghost use Rattle.map_ops.specs.Planning.{is_asked};
 
-use crate::commands::{delete, merge, move_to, offline, online, split};
-use crate::opening::listed;
-use crate::runs::{GOOD, Run};
-use crate::stores::{crashed, one_offline, two_ranges};
-use crate::told_rows::told;
-use crate::words::there;
 use cell_world::outside::World;
+use event_runs::commands::{delete, merge, move_to, offline, online, split};
+use event_runs::listing::listed;
+use event_runs::runs::{GOOD, Run};
+use event_runs::stores::{crashed, one_offline, two_ranges};
+use event_runs::told_rows::told;
+use event_runs::words::there;
 use manager_core::manager::Outcome;
 use plain_model::commands::Command;
 use std::alloc::Global;
@@ -132,7 +132,27 @@ const DELETE: Course = Course {
     after: b"mappings 1\n10 20 s/a online\n",
 };
 
-/// Asks the command, and goes on with it to its end. How much has happened after each event, and once the core has ended.
+/// Asks the command, and goes on with it to its end. Adds how much has happened after each event.
+fn go_whole(
+    alloc: Global,
+    run: &mut Run,
+    command: Command,
+    moments: &mut Vec<u64>,
+) -> Result<Outcome, Fail>
+    requires { is_asked command ≡ true }
+{
+    let mut outcome = run.ask(alloc, 1, command)?;
+    moments.push(run.moment())?;
+    for _ in 0..3 {
+        if let Outcome::Going(_) = outcome {
+            outcome = run.go(alloc, 1)?;
+            moments.push(run.moment())?;
+        }
+    }
+    Ok(outcome)
+}
+
+/// How much has happened after each event of the command, and once the core has ended.
 fn run_whole(
     alloc: Global,
     world: MemoryWorld,
@@ -142,15 +162,7 @@ fn run_whole(
 {
     let mut run = Run::start(alloc, world, 1, false)?;
     let mut moments = Vec::new(alloc);
-    let mut outcome = run.ask(alloc, 1, command)?;
-    moments.push(run.moment())?;
-    for _ in 0..3 {
-        if let Outcome::Going(_) = outcome {
-            outcome = run.go(alloc, 1)?;
-            moments.push(run.moment())?;
-        }
-    }
-    if outcome != GOOD {
+    if go_whole(alloc, &mut run, command, &mut moments)? != GOOD {
         return Err(Fail::from("it isn't done"));
     }
     let over = run.end(alloc)?;

@@ -1,14 +1,14 @@
 //! Three sessions go round by turns while commits fail: what they are answered is what the plain map answers in which each command that was
 //! answered `fault` is done or not; each image is judged, and so is what a crash leaves.
 
-use crate::faults::{commit, faults_in, is_fault, plan_of};
-use crate::opening::listed;
-use crate::rounds::{begun, is_plain, made_by, plain_map, plainly, turn};
-use crate::runs::Over;
-use crate::stores::crashed;
-use crate::turns::are_sound;
-use crate::words::map;
+use crate::rounds::{begun, go_round, is_plain, made_by, plain_map, plainly};
 use cell_world::outside::World;
+use event_runs::faults::{commit, faults_in, is_fault, plan_of};
+use event_runs::judge::are_sound;
+use event_runs::listing::listed;
+use event_runs::runs::Over;
+use event_runs::stores::crashed;
+use event_runs::words::map;
 use plain_map::asking::PlainMap;
 use plain_model::commands::Command;
 use plain_model::history::Entry;
@@ -25,12 +25,7 @@ fn take_turns(
     faults: &[PlannedFault],
 ) -> Result<Over, Fail> {
     let mut run = begun(alloc)?.failing(plan_of(alloc, faults)?);
-    let mut order = order;
-    for _ in 0..turns {
-        // a common generator of random numbers
-        order = order.wrapping_mul(1_103_515_245).wrapping_add(12_345);
-        turn(alloc, &mut run, (order >> 16) % 3 + 1)?;
-    }
+    go_round(alloc, &mut run, turns, order)?;
     let (over, _tail) = run.stop(alloc);
     Ok(over)
 }

@@ -1,6 +1,6 @@
 use Rattle.std.proofs.Common.{ap, sym, ◌∙◌, is_eq}
 use Rattle.std.specs.List.{IsDistinct}
-use Rattle.event_tests.proofs.stores.empty_world.Goals as goal
+use Rattle.event_runs.proofs.stores.empty_world.Goals as goal
 
 pub new-requires-clause-distinct : goal.new-requires-clause-distinct
 unfolding IsDistinct

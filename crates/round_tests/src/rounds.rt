@@ -3,17 +3,16 @@
 ghost use Rattle.std.specs.Prelude.{◌≡◌, IfOk, true};
 ghost use Rattle.map_ops.specs.Planning.{is_asked};
 
-use crate::commands::{delete, lock, merge, move_to, offline, online, split, unlock};
-use crate::judge::is_judged_sound;
-use crate::opening::listed;
-use crate::runs::{Over, Run};
-use crate::stores::{crashed, empty_world};
-use crate::turns::are_sound;
-use crate::words::{here, map, there, word};
 use cell_world::cells::{KeyType, MapKind};
 use cell_world::outside::World;
+use event_runs::commands::{add, delete, lock, merge, move_to, offline, online, split, unlock};
+use event_runs::judge::are_sound;
+use event_runs::listing::listed;
+use event_runs::runs::{Over, Run};
+use event_runs::stores::{crashed, empty_world};
+use event_runs::words::{here, map, there};
 use plain_map::asking::{PlainMap, is_built};
-use plain_model::commands::{Command, HighText};
+use plain_model::commands::Command;
 use plain_model::history::Entry;
 use plain_model::replies::Reply;
 use script_lang::replies::write_reply;
@@ -30,9 +29,9 @@ fn first_asks(answered: u64) -> Result<Command, Fail>
         0 => Ok(Command::Map(map()?, MapKind::Range, KeyType::Int)),
         1 => Ok(Command::Shard(map()?, here()?)),
         2 => Ok(Command::Shard(map()?, there()?)),
-        3 => Ok(Command::Add(map()?, word(b"0")?, HighText::At(word(b"4")?), here()?)),
-        4 => Ok(Command::Add(map()?, word(b"4")?, HighText::At(word(b"8")?), here()?)),
-        5 => Ok(Command::Add(map()?, word(b"8")?, HighText::At(word(b"12")?), there()?)),
+        3 => add(b"0", b"4", here()?),
+        4 => add(b"4", b"8", here()?),
+        5 => add(b"8", b"12", there()?),
         _ => goes_and_comes(answered),
     }
 }
@@ -69,7 +68,7 @@ fn third_asks(answered: u64) -> Result<Command, Fail>
     match answered % 6 {
         0 | 3 => offline(b"5"),
         1 => delete(b"5"),
-        2 => Ok(Command::Add(map()?, word(b"4")?, HighText::At(word(b"8")?), there()?)),
+        2 => add(b"4", b"8", there()?),
         4 => move_to(b"5", here()?),
         _ => online(b"5"),
     }
@@ -102,15 +101,21 @@ pub(crate) fn begun(alloc: Global) -> Result<Run, Fail> {
     Err(Fail::from("no ranges"))
 }
 
-/// What is left once the sessions had so many turns, in an order that the number says.
-fn take_turns(alloc: Global, turns: u32, order: u32) -> Result<Over, Fail> {
-    let mut run = begun(alloc)?;
+/// The sessions have so many turns, in an order that the number says.
+pub(crate) fn go_round(alloc: Global, run: &mut Run, turns: u32, order: u32) -> Result<(), Fail> {
     let mut order = order;
     for _ in 0..turns {
         // a common generator of random numbers
         order = order.wrapping_mul(1_103_515_245).wrapping_add(12_345);
-        turn(alloc, &mut run, (order >> 16) % 3 + 1)?;
+        turn(alloc, run, (order >> 16) % 3 + 1)?;
     }
+    Ok(())
+}
+
+/// What is left once they had them.
+fn take_turns(alloc: Global, turns: u32, order: u32) -> Result<Over, Fail> {
+    let mut run = begun(alloc)?;
+    go_round(alloc, &mut run, turns, order)?;
     run.end(alloc)
 }
 
@@ -171,20 +176,34 @@ pub(crate) fn plain_map(alloc: Global) -> Result<PlainMap, Fail> {
 /// Which of the eight commands were done, and at the end whether one waited.
 type Seen = [bool; 9];
 
-/// Notes what an entry shows.
-fn note(seen: &mut Seen, entry: &Entry) {
-    match (&entry.command, &entry.reply) {
-        (_, Some(Reply::Pending(_))) => seen[8] = true,
-        (Command::Delete(_, _, _), Some(Reply::Ok)) => seen[0] = true,
-        (Command::Offline(_, _, _), Some(Reply::Ok)) => seen[1] = true,
-        (Command::Online(_, _, _), Some(Reply::Ok)) => seen[2] = true,
-        (Command::Move(_, _, _, _), Some(Reply::Ok)) => seen[3] = true,
-        (Command::Split(_, _, _), Some(Reply::Ok)) => seen[4] = true,
-        (Command::Merge(_, _, _), Some(Reply::Ok)) => seen[5] = true,
-        (Command::Lock(_, _, _), Some(Reply::Ok)) => seen[6] = true,
-        (Command::Unlock(_, _, _), Some(Reply::Ok)) => seen[7] = true,
+/// Notes that a command was done.
+fn note_done(seen: &mut Seen, command: &Command) {
+    match command {
+        Command::Delete(_, _, _) => seen[0] = true,
+        Command::Offline(_, _, _) => seen[1] = true,
+        Command::Online(_, _, _) => seen[2] = true,
+        Command::Move(_, _, _, _) => seen[3] = true,
+        Command::Split(_, _, _) => seen[4] = true,
+        Command::Merge(_, _, _) => seen[5] = true,
+        Command::Lock(_, _, _) => seen[6] = true,
+        Command::Unlock(_, _, _) => seen[7] = true,
         _ => {}
     }
+}
+
+/// Notes what an entry shows.
+fn note(seen: &mut Seen, entry: &Entry) {
+    match &entry.reply {
+        Some(Reply::Pending(_)) => seen[8] = true,
+        Some(Reply::Ok) => note_done(seen, &entry.command),
+        _ => {}
+    }
+}
+
+/// Whether the plain map answers as all the entries tell.
+fn agrees_with_all(alloc: Global, entries: &[Entry]) -> Result<bool, Fail> {
+    let mut plain = plain_map(alloc)?;
+    agrees(alloc, &mut plain, entries, 0, entries.len())
 }
 
 #[test]
@@ -194,11 +213,7 @@ fn whatever_the_order_the_plain_map_agrees(rt: HostRuntime) -> Result<(), Fail> 
     for order in 1..=8 {
         let over = take_turns(alloc, 60, order)?;
         let entries = over.history.as_slice();
-        let mut plain = plain_map(alloc)?;
-        assert!(rt;
-            agrees(alloc, &mut plain, entries, 0, entries.len())?,
-            "order {order}"
-        );
+        assert!(rt; agrees_with_all(alloc, entries)?, "order {order}");
         assert!(rt; are_sound(alloc, &over.world)?, "order {order}");
         for entry in entries {
             note(&mut seen, entry);

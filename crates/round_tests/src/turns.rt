@@ -1,10 +1,10 @@
 //! Three sessions take turns in many orders; each image on the way, and each that a crash leaves, is judged.
 
-use crate::judge::is_judged_sound;
-use crate::runs::{REFUSED, Run};
-use crate::stores::{crashed, store};
-use crate::words::{here, there};
 use cell_world::outside::World;
+use event_runs::judge::are_sound;
+use event_runs::runs::{REFUSED, Run};
+use event_runs::stores::{crashed, store};
+use event_runs::words::{here, there};
 use manager_core::manager::Outcome;
 use std::alloc::Global;
 use std::test::Fail;
@@ -48,17 +48,6 @@ fn reopened(alloc: Global, world: MemoryWorld) -> Result<MemoryWorld, Fail> {
     }
     let over = run.end(alloc)?;
     Ok(over.world)
-}
-
-/// Whether each image of the world is sound.
-pub(crate) fn are_sound(alloc: Global, world: &MemoryWorld) -> Result<bool, Fail> {
-    for moment in 0..=world.moment() {
-        let mut image = crashed(alloc, world, moment)?;
-        if !is_judged_sound(alloc, &mut image)? {
-            return Ok(false);
-        }
-    }
-    Ok(true)
 }
 
 /// Whether a new run over what a crash left goes through sound images only, whenever the crash was.

@@ -62,7 +62,7 @@ fn add_rows(
 }
 
 /// What stands: the numbers of the logged operations, and the rows at both sites.
-pub(crate) fn told(alloc: Global, world: &mut MemoryWorld) -> Result<String, Fail> {
+pub fn told(alloc: Global, world: &mut MemoryWorld) -> Result<String, Fail> {
     let mut told = String::new(alloc);
     for op in log_rows(alloc, world)?.as_slice() {
         let number = op.number;

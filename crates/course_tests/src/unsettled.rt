@@ -2,16 +2,16 @@
 ghost use Rattle.std.specs.Prelude.{◌≡◌, IfOk, true};
 ghost use Rattle.map_ops.specs.Planning.{is_asked};
 
-use crate::commands::{delete, merge, move_to, offline, online, split};
-use crate::faults::{commit, listed_anew, lost, plan_of};
-use crate::judge::rows_at;
-use crate::runs::{GOOD, Over, Run};
-use crate::stores::store;
-use crate::turns::are_sound;
-use crate::words::{here, map, there, word};
 use cell_world::cells::{Cell, Mark};
+use event_runs::commands::{add, delete, merge, move_to, offline, online, split};
+use event_runs::faults::{commit, lost, plan_of};
+use event_runs::judge::{are_sound, rows_at};
+use event_runs::listing::listed_anew;
+use event_runs::runs::{GOOD, Over, Run};
+use event_runs::stores::store;
+use event_runs::words::{here, there};
 use manager_core::opening::Tail;
-use plain_model::commands::{Command, HighText};
+use plain_model::commands::Command;
 use std::alloc::Global;
 use std::test::Fail;
 use world_memory::faults::{CallName, PlannedFault};
@@ -25,7 +25,7 @@ fn asked(place: u32) -> Result<Command, Fail>
     ensures { IfOk result (λ command. is_asked command ≡ true) }
 {
     match place {
-        0 => Ok(Command::Add(map()?, word(b"0")?, HighText::At(word(b"10")?), here()?)),
+        0 => add(b"0", b"10", here()?),
         1 => split(b"4", None),
         2 => offline(b"4"),
         3 => move_to(b"4", there()?),
@@ -36,7 +36,7 @@ fn asked(place: u32) -> Result<Command, Fail>
         8 => merge(b"0"),
         9 => offline(b"0"),
         10 => delete(b"0"),
-        _ => Ok(Command::Add(map()?, word(b"2")?, HighText::At(word(b"7")?), there()?)),
+        _ => add(b"2", b"7", there()?),
     }
 }
 
@@ -64,23 +64,27 @@ struct Came {
     unsettled: u32,
 }
 
+/// Asks the long command of this place, and goes on until it is done. Whether rows had marks after its beginning.
+fn finds_marks(alloc: Global, run: &mut Run, place: u32) -> Result<bool, Fail> {
+    let _begun = run.ask(alloc, 1, asked(place)?)?;
+    let marks = marked(alloc, &mut run.image(alloc)?)?;
+    if run.go_on(alloc, 1)? == GOOD {
+        Ok(marks > 0)
+    } else {
+        Err(Fail::from("a settling that failed was told"))
+    }
+}
+
 /// Asks the long commands, with this call failing in each settling. It is counted from each command's beginning on.
 fn run_unsettled(alloc: Global, fault: PlannedFault) -> Result<Came, Fail> {
     let mut run = Run::start(alloc, store(alloc)?, 1, false)?;
     let mut unsettled = 0u32;
     for place in 0..COMMANDS {
-        if place > 0 {
-            run = run.failing(plan_of(alloc, &[fault])?);
-        }
-        let _begun = run.ask(alloc, 1, asked(place)?)?;
-        if marked(alloc, &mut run.image(alloc)?)? > 0 {
+        if finds_marks(alloc, &mut run, place)? {
             unsettled = unsettled.saturating_add(1);
         }
-        if run.go_on(alloc, 1)? != GOOD {
-            return Err(Fail::from("a settling that failed was told"));
-        }
+        run = run.failing(plan_of(alloc, &[fault])?);
     }
-    let run = run.failing(plan_of(alloc, &[fault])?);
     let (over, tail) = run.stop(alloc);
     Ok(Came {
         over,
