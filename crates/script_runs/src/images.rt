@@ -8,7 +8,8 @@ use std::alloc::Global;
 use std::test::Fail;
 use world_memory::world::MemoryWorld;
 
-pub(crate) fn location(text: &[u8]) -> Result<Location, Fail> {
+/// The location that is spelled so.
+pub fn location(text: &[u8]) -> Result<Location, Fail> {
     Ok(Location::read(text).ok_or("a location")?)
 }
 
@@ -19,16 +20,18 @@ fn least() -> Result<CellKey, Fail> {
 }
 
 /// The local rows at a location.
-pub(crate) fn rows_at(
-    alloc: Global,
-    world: &mut MemoryWorld,
-    at: &Location,
-) -> Result<Vec<Cell>, Fail> {
+pub fn rows_at(alloc: Global, world: &mut MemoryWorld, at: &Location) -> Result<Vec<Cell>, Fail> {
     let from = least()?;
     match world.locate(at) {
         None => Err(Fail::from("no such location")),
         Some(site) => Ok(world.scan(alloc, site, &from, 1000)?),
     }
+}
+
+/// How many local rows there are at the location that is spelled so.
+pub fn rows_in(alloc: Global, world: &mut MemoryWorld, at: &[u8]) -> Result<usize, Fail> {
+    let rows = rows_at(alloc, world, &location(at)?)?;
+    Ok(rows.len())
 }
 
 /// Whether both rows are online over one key of a map.
@@ -58,11 +61,7 @@ fn is_online_once(alloc: Global, world: &mut MemoryWorld) -> Result<bool, Fail> 
 }
 
 /// The world that a crash at the moment leaves.
-pub(crate) fn crashed(
-    alloc: Global,
-    world: &MemoryWorld,
-    moment: u64,
-) -> Result<MemoryWorld, Fail> {
+pub fn crashed(alloc: Global, world: &MemoryWorld, moment: u64) -> Result<MemoryWorld, Fail> {
     if moment > world.moment() {
         return Err(Fail::from("no moment"));
     }
@@ -70,7 +69,7 @@ pub(crate) fn crashed(
 }
 
 /// The first moment of a run at which a key is online at two sites, if there is one.
-pub(crate) fn first_online_twice(alloc: Global, world: &MemoryWorld) -> Result<Option<u64>, Fail> {
+pub fn first_online_twice(alloc: Global, world: &MemoryWorld) -> Result<Option<u64>, Fail> {
     for moment in 0..=world.moment() {
         let mut image = crashed(alloc, world, moment)?;
         if !is_online_once(alloc, &mut image)? {

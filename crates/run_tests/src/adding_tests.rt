@@ -1,22 +1,20 @@
-//! Scripts that add mappings, over the world and the source in memory.
-use crate::tests::{is, run_at, run_with, words_in};
-use cell_world::outside::World;
+//! Scripts that add mappings.
 use plain_model::finish::RunStatus;
+use script_runs::images::crashed;
+use script_runs::runs::{Ran, run_with};
+use script_runs::worlds::words_in;
+use sqlite_runs::{ends_so, run_at};
 use std::alloc::Global;
 use std::test::Fail;
 
 #[test]
 fn a_range_up_to_the_unbounded_end_is_added(rt: HostRuntime) -> Result<(), Fail> {
     let alloc = rt.alloc();
-    let after = run_at(
-        alloc,
-        "s/a",
-        b"map m range int\nshard m s/a\nadd m -2147483648 max s/a\nfind m -2147483648\nfind m 2147483647\n",
-    )?;
     assert!(rt;
-        is(
+        ends_so(
             alloc,
-            &after,
+            "s/a",
+            b"map m range int\nshard m s/a\nadd m -2147483648 max s/a\nfind m -2147483648\nfind m 2147483647\n",
             RunStatus::Done,
             b"ok\nok\nok\n-2147483648 max s/a online\n-2147483648 max s/a online\n",
         )?
@@ -27,15 +25,11 @@ fn a_range_up_to_the_unbounded_end_is_added(rt: HostRuntime) -> Result<(), Fail>
 #[test]
 fn ranges_may_touch_and_not_overlap(rt: HostRuntime) -> Result<(), Fail> {
     let alloc = rt.alloc();
-    let after = run_at(
-        alloc,
-        "s/a",
-        b"map m range int\nshard m s/a\nadd m 0 100 s/a\nadd m 100 200 s/a\nadd m 99 101 s/a\nlist m\n",
-    )?;
     assert!(rt;
-        is(
+        ends_so(
             alloc,
-            &after,
+            "s/a",
+            b"map m range int\nshard m s/a\nadd m 0 100 s/a\nadd m 100 200 s/a\nadd m 99 101 s/a\nlist m\n",
             RunStatus::Refused,
             b"ok\nok\nok\nok\noverlap\nmappings 2\n0 100 s/a online\n100 200 s/a online\n",
         )?
@@ -46,17 +40,13 @@ fn ranges_may_touch_and_not_overlap(rt: HostRuntime) -> Result<(), Fail> {
 #[test]
 fn a_range_has_a_key(rt: HostRuntime) -> Result<(), Fail> {
     let alloc = rt.alloc();
-    let after = run_at(
-        alloc,
-        "s/a",
-        b"map m range int\nshard m s/a\nadd m 5 5 s/a\nadd m 6 5 s/a\n",
-    )?;
     assert!(rt;
-        is(
+        ends_so(
             alloc,
-            &after,
+            "s/a",
+            b"map m range int\nshard m s/a\nadd m 5 5 s/a\nadd m 6 5 s/a\n",
             RunStatus::Refused,
-            b"ok\nok\nbad-range\nbad-range\n"
+            b"ok\nok\nbad-range\nbad-range\n",
         )?
     );
     Ok(())
@@ -66,15 +56,11 @@ fn a_range_has_a_key(rt: HostRuntime) -> Result<(), Fail> {
 fn a_key_is_added_once(rt: HostRuntime) -> Result<(), Fail> {
     let alloc = rt.alloc();
     // zero bytes at the end of a bytes key don't count
-    let after = run_at(
-        alloc,
-        "s/a",
-        b"map b list bytes\nshard b s/a\naddpoint b 0x0100 s/a\nfind b 0x01\naddpoint b 0x01 s/a\naddpoint b 0x s/a\naddpoint b 0x00 s/a\n",
-    )?;
     assert!(rt;
-        is(
+        ends_so(
             alloc,
-            &after,
+            "s/a",
+            b"map b list bytes\nshard b s/a\naddpoint b 0x0100 s/a\nfind b 0x01\naddpoint b 0x01 s/a\naddpoint b 0x s/a\naddpoint b 0x00 s/a\n",
             RunStatus::Refused,
             b"ok\nok\nok\n0x01 s/a online\noverlap\nok\noverlap\n",
         )?
@@ -97,8 +83,7 @@ ok
 00000000-0000-0000-0000-000000000002 s/a online
 overlap
 ";
-    let after = run_at(alloc, "s/a", script.as_slice())?;
-    assert!(rt; is(alloc, &after, RunStatus::Refused, wanted.as_slice())?);
+    assert!(rt; ends_so(alloc, "s/a", script, RunStatus::Refused, wanted)?);
     Ok(())
 }
 
@@ -127,11 +112,8 @@ addpoint l 0 s/a
 unshard m s/a
 ";
 
-#[test]
-fn each_refusal_of_adding_has_its_reply(rt: HostRuntime) -> Result<(), Fail> {
-    let alloc = rt.alloc();
-    let after = run_at(alloc, "s/a s/b", REFUSALS)?;
-    let wanted = b"ok
+/// What they are answered.
+const ANSWERS: &[u8] = b"ok
 ok
 ok
 ok
@@ -154,7 +136,11 @@ ok
 overlap
 shard-in-use
 ";
-    assert!(rt; is(alloc, &after, RunStatus::Refused, wanted.as_slice())?);
+
+#[test]
+fn each_refusal_of_adding_has_its_reply(rt: HostRuntime) -> Result<(), Fail> {
+    let alloc = rt.alloc();
+    assert!(rt; ends_so(alloc, "s/a s/b", REFUSALS, RunStatus::Refused, ANSWERS)?);
     Ok(())
 }
 
@@ -171,10 +157,26 @@ fn adds_a_key(alloc: Global, digits: usize) -> Result<Vec<u8>, Fail> {
 #[test]
 fn a_bytes_key_has_at_most_128_bytes(rt: HostRuntime) -> Result<(), Fail> {
     let alloc = rt.alloc();
-    let fits = run_at(alloc, "s/a", adds_a_key(alloc, 256)?.as_slice())?;
-    assert!(rt; is(alloc, &fits, RunStatus::Done, b"ok\nok\nok\n")?);
-    let more = run_at(alloc, "s/a", adds_a_key(alloc, 258)?.as_slice())?;
-    assert!(rt; is(alloc, &more, RunStatus::Refused, b"ok\nok\nbad-key\n")?);
+    let fits = adds_a_key(alloc, 256)?;
+    assert!(rt;
+        ends_so(
+            alloc,
+            "s/a",
+            fits.as_slice(),
+            RunStatus::Done,
+            b"ok\nok\nok\n"
+        )?
+    );
+    let more = adds_a_key(alloc, 258)?;
+    assert!(rt;
+        ends_so(
+            alloc,
+            "s/a",
+            more.as_slice(),
+            RunStatus::Refused,
+            b"ok\nok\nbad-key\n"
+        )?
+    );
     Ok(())
 }
 
@@ -200,25 +202,23 @@ fn wanted_after(moment: u64) -> &'static [u8] {
     }
 }
 
+/// What a script writes that lists the mappings, adds one, and lists them again, after a crash of a run at the moment.
+fn found_after(alloc: Global, ran: &Ran, moment: u64) -> Result<Vec<u8>, Fail> {
+    let world = crashed(alloc, &ran.world, moment)?;
+    let words = words_in(alloc, "s/a")?;
+    let script = b"list m\nadd m 0 9 s/a\nlist m\n".to_vec(alloc)?;
+    run_with(alloc, &words, world, script).output(alloc)
+}
+
 #[test]
 fn a_crash_leaves_an_add_done_or_undone(rt: HostRuntime) -> Result<(), Fail> {
     let alloc = rt.alloc();
-    let words = words_in(alloc, "s/a")?;
-    let after = run_at(
-        alloc,
-        "s/a",
-        b"map m range int\nshard m s/a\nadd m 0 9 s/a\n",
-    )?;
-    let length = after.world.moment();
-    assert!(rt; length == 9);
-    for moment in 0..=length {
-        if moment <= after.world.moment() {
-            let world = after.world.crashed(alloc, moment)?;
-            let script = b"list m\nadd m 0 9 s/a\nlist m\n".to_vec(alloc)?;
-            let again = run_with(alloc, &words, world, script);
-            let output = again.world.output(alloc)?;
-            assert!(rt; output.as_slice() == wanted_after(moment), "after {moment}");
-        }
+    let script = b"map m range int\nshard m s/a\nadd m 0 9 s/a\n";
+    let after = run_at(alloc, "s/a", script)?;
+    assert_eq!(rt; after.moment(), 9);
+    for moment in 0..=9 {
+        let found = found_after(alloc, &after, moment)?;
+        assert!(rt; found.as_slice() == wanted_after(moment), "after {moment}");
     }
     Ok(())
 }

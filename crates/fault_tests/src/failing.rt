@@ -1,21 +1,17 @@
 //! Runs in which calls fail, and what is so of each of them.
-use crate::crash_tests::{plain_map, plainly};
-use crate::images::crashed;
-use crate::tests::{Ran, run_with, words_in};
-use crate::told::{LOCATIONS, script_of};
 use crate::watched::Watched;
-use crate::worlds::world_of;
 use cell_world::cells::{CellKey, Site};
 use cell_world::items::Items;
-use cell_world::names::Name;
 use cell_world::outside::World;
 use command_scripts::Line;
 use plain_map::asking::PlainMap;
-use plain_model::commands::Command;
 use plain_model::finish::RunStatus;
 use plain_model::history::Entry;
 use plain_model::replies::{Reply, Sort};
 use script_lang::replies::write_reply;
+use script_runs::plain_answers::{plain_list, plain_map, plainly};
+use script_runs::runs::Ran;
+use script_runs::told::{locations, run_after, script_of};
 use script_shell::shell::run_script;
 use std::alloc::Global;
 use std::test::Fail;
@@ -61,6 +57,7 @@ pub(crate) fn cut(number: u32, prefix: u32) -> PlannedFault {
     }
 }
 
+/// The plan by which these calls fail.
 fn plan_of(alloc: Global, faults: &[PlannedFault]) -> Result<FaultPlan, Fail> {
     let mut calls = Items::new(alloc);
     for fault in faults {
@@ -69,9 +66,17 @@ fn plan_of(alloc: Global, faults: &[PlannedFault]) -> Result<FaultPlan, Fail> {
     Ok(FaultPlan { calls })
 }
 
-/// Empty stores at the three locations.
-pub(crate) fn empty_stores(alloc: Global) -> Result<MemoryWorld, Fail> {
-    world_of(alloc, &words_in(alloc, LOCATIONS)?)
+/// Runs a script over a world whose failing calls are counted.
+fn run_watched(alloc: Global, words: &Vec<String>, world: MemoryWorld, script: Vec<u8>) -> Failing {
+    let mut source = MemorySource::new(script);
+    let (finish, watched) = run_script(alloc, words, Watched::new(world), &mut source);
+    let Watched { world, failed } = watched;
+    let ran = Ran {
+        status: finish.status,
+        history: finish.history,
+        world,
+    };
+    Failing { ran, failed }
 }
 
 /// Runs the lines over a world in which these calls fail.
@@ -81,26 +86,15 @@ pub(crate) fn run_failing(
     faults: &[PlannedFault],
     lines: &[Line],
 ) -> Result<Failing, Fail> {
-    let words = words_in(alloc, LOCATIONS)?;
+    let words = locations(alloc)?;
     let script = script_of(alloc, lines)?;
     let plan = plan_of(alloc, faults)?;
-    let watched = Watched::new(world.with_faults(plan));
-    let mut source = MemorySource::new(script);
-    let (finish, watched) = run_script(alloc, &words, watched, &mut source);
-    let Watched { world, failed } = watched;
-    let ran = Ran {
-        status: finish.status,
-        history: finish.history,
-        world,
-    };
-    Ok(Failing { ran, failed })
+    Ok(run_watched(alloc, &words, world.with_faults(plan), script))
 }
 
 /// Runs the lines over the world that a run left, in which no call fails.
 pub(crate) fn run_again(alloc: Global, ran: &Ran, lines: &[Line]) -> Result<Ran, Fail> {
-    let words = words_in(alloc, LOCATIONS)?;
-    let world = crashed(alloc, &ran.world, ran.world.moment())?;
-    Ok(run_with(alloc, &words, world, script_of(alloc, lines)?))
+    run_after(alloc, &ran.world, ran.moment(), lines)
 }
 
 /// How many operations are logged.
@@ -153,15 +147,21 @@ fn has_causes(failing: &Failing, commands: usize) -> bool {
     (ended || (is_unopened(failing) && failed > 0)) && faults_in(entries) <= failed
 }
 
-/// Whether the replies of the entries were written, or a front of them where a write failed.
-fn is_written(alloc: Global, ran: &Ran) -> Result<bool, Fail> {
+/// What is written where the entries are answered so.
+fn replies_of(alloc: Global, entries: &[Entry]) -> Result<Vec<u8>, Fail> {
     let mut lines: Vec<u8> = Vec::new(alloc);
-    for entry in ran.history.as_slice() {
+    for entry in entries {
         if let Some(reply) = &entry.reply {
             lines.extend_from_slice(write_reply(alloc, None, reply)?.as_slice())?;
         }
     }
-    let output = ran.world.output(alloc)?;
+    Ok(lines)
+}
+
+/// Whether the replies of the entries were written, or a front of them where a write failed.
+fn is_written(alloc: Global, ran: &Ran) -> Result<bool, Fail> {
+    let lines = replies_of(alloc, ran.history.as_slice())?;
+    let output = ran.output(alloc)?;
     if ran.status == RunStatus::WriteFault {
         Ok(lines.as_slice().starts_with(output.as_slice()))
     } else {
@@ -214,17 +214,16 @@ fn lists_so(
     chosen: u32,
     listed: &[u8],
 ) -> Result<bool, Fail> {
-    let list = Command::List(Name::read(b"m").ok_or("a name")?);
     let mut plain = plain_map(alloc)?;
     if !goes_so(alloc, &mut plain, before, 0)? || !goes_so(alloc, &mut plain, entries, chosen)? {
         return Ok(false);
     }
-    Ok(plainly(alloc, &mut plain, &list)?.as_slice() == listed)
+    Ok(plain_list(alloc, &mut plain)?.as_slice() == listed)
 }
 
 /// Whether this is listed by a plain map that went as the entries tell, each of at most two that are answered `fault` done
 /// or not. Those before have no `fault`.
-pub(crate) fn is_listed(
+fn is_listed(
     alloc: Global,
     before: &[Entry],
     entries: &[Entry],
@@ -244,7 +243,7 @@ pub(crate) fn is_listed(
 /// Whether a new run lists what the entries left, and has nothing in the log.
 fn leaves_a_front(alloc: Global, before: &[Entry], ran: &Ran) -> Result<bool, Fail> {
     let again = run_again(alloc, ran, &[("list m", "")])?;
-    let listed = again.world.output(alloc)?;
+    let listed = again.output(alloc)?;
     let mut left = again.world;
     Ok(
         logged(alloc, &mut left)? == 0
@@ -253,7 +252,7 @@ fn leaves_a_front(alloc: Global, before: &[Entry], ran: &Ran) -> Result<bool, Fa
 }
 
 /// Whether a run of so many commands is as it must be. Its world is what the entries before it left.
-pub(crate) fn is_right(
+fn is_right(
     alloc: Global,
     before: &[Entry],
     failing: &Failing,
@@ -264,4 +263,18 @@ pub(crate) fn is_right(
             && is_written(alloc, &failing.ran)?
             && leaves_a_front(alloc, before, &failing.ran)?,
     )
+}
+
+/// Fails where a run of so many commands isn't as it must be. Its world is what the entries before it left.
+pub(crate) fn expect_right(
+    alloc: Global,
+    before: &[Entry],
+    failing: &Failing,
+    commands: usize,
+) -> Result<(), Fail> {
+    if is_right(alloc, before, failing, commands)? {
+        Ok(())
+    } else {
+        Err(Fail::from("a failing call isn't taken as it must be"))
+    }
 }

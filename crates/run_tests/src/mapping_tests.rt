@@ -1,13 +1,14 @@
-//! Scripts on mappings that stand, over the world and the source in memory.
-use crate::told::{run_lines, wrote};
+//! Scripts on mappings that stand.
 use command_scripts::Line;
 use plain_model::finish::RunStatus;
+use script_runs::told::wrote;
+use sqlite_runs::run_told;
 use std::alloc::Global;
 use std::test::Fail;
 
 /// Whether the lines are answered as they tell, and a refusal is among the answers.
 fn is_told(alloc: Global, lines: &[Line]) -> Result<bool, Fail> {
-    let ran = run_lines(alloc, lines)?;
+    let ran = run_told(alloc, lines)?;
     Ok(ran.status == RunStatus::Refused && wrote(alloc, &ran, lines)?)
 }
 

@@ -1,24 +1,18 @@
-//! The worlds over which scripts are tried: in memory, and over `sqlite` in memory, where a script ends as in memory.
-use crate::tests::Ran;
+//! Runs of scripts over the world in memory, which must end so over `sqlite` in memory too.
+#![tactic(auto)]
+
+use command_scripts::Line;
 use plain_model::finish::RunStatus;
-use script_lang::command_line::{Words, WordsFault, read_words};
+use script_lang::command_line::{Words, read_words};
 use script_lang::programs::Program;
+use script_runs::runs::{Ran, is, run_words};
+use script_runs::told::{LOCATIONS, script_of};
+use script_runs::worlds::words_in;
 use script_shell::shell::run_script;
-use shardctl_program::program::empty_world;
 use std::alloc::Global;
 use std::test::Fail;
 use world_memory::source::MemorySource;
-use world_memory::world::MemoryWorld;
 use world_sqlite::SqliteWorld;
-
-/// A world in memory with the locations that the words name; without locations where the words are bad.
-pub(crate) fn world_of(alloc: Global, words: &Vec<String>) -> Result<MemoryWorld, Fail> {
-    match read_words(alloc, words, Program::Ctl) {
-        Ok(says) => Ok(MemoryWorld::new(alloc, says.locations.as_slice())?),
-        Err(WordsFault::At(_)) => Ok(empty_world(alloc)?),
-        Err(WordsFault::Memory) => Err("out of memory".into()),
-    }
-}
 
 /// How a script ended, and what it wrote.
 #[derive(Drop)]
@@ -45,7 +39,7 @@ fn run_over_sqlite(
 }
 
 /// Whether a script ends so over `sqlite` too, with these replies. Where the words are bad there is no world.
-pub(crate) fn is_so_over_sqlite(
+fn is_so_over_sqlite(
     alloc: Global,
     words: &Vec<String>,
     script: &[u8],
@@ -55,6 +49,34 @@ pub(crate) fn is_so_over_sqlite(
         return Ok(true);
     };
     let ended = run_over_sqlite(alloc, words, &says, script)?;
-    let output = ran.world.output(alloc)?;
+    let output = ran.output(alloc)?;
     Ok(ended.status == ran.status && ended.output.as_slice() == output.as_slice())
+}
+
+/// Runs a script over empty stores at the locations of the line; over `sqlite` in memory it must end so too, with the
+/// same replies.
+pub fn run_at(alloc: Global, line: &str, script: &[u8]) -> Result<Ran, Fail> {
+    let words = words_in(alloc, line)?;
+    let ran = run_words(alloc, &words, script)?;
+    if !is_so_over_sqlite(alloc, &words, script, &ran)? {
+        return Err("over `sqlite` it ends otherwise".into());
+    }
+    Ok(ran)
+}
+
+/// Whether a script at the locations of the line has this status and writes this, over `sqlite` too.
+pub fn ends_so(
+    alloc: Global,
+    line: &str,
+    script: &[u8],
+    status: RunStatus,
+    output: &[u8],
+) -> Result<bool, Fail> {
+    let ran = run_at(alloc, line, script)?;
+    is(alloc, &ran, status, output)
+}
+
+/// Runs the lines over empty stores, over `sqlite` too.
+pub fn run_told(alloc: Global, lines: &[Line]) -> Result<Ran, Fail> {
+    run_at(alloc, LOCATIONS, script_of(alloc, lines)?.as_slice())
 }
