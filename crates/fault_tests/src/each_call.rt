@@ -1,9 +1,9 @@
 //! Scripts of all built commands in which each single call fails, and shorter ones in which two do. Each run has its causes, writes the
 //! replies of its history and no others, and leaves what the plain map lists that went as the history tells; each command that was
 //! answered `fault` is done or not.
-use crate::failing::{expect_right, run_failing};
 use crate::kinds::{Kind, MANY, OF_STORES, WRITES, fault_of};
 use command_scripts::Line;
+use fault_runs::failing::{expect_right, run_failing};
 use script_runs::fault_scripts::{points, ranges, short};
 use script_runs::told::{empty_stores, wrote};
 use std::alloc::Global;

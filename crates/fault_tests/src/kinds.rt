@@ -1,5 +1,5 @@
 //! The kinds of failing calls.
-use crate::failing::{cut, lost, made};
+use fault_runs::failing::{cut, lost, made};
 use world_memory::faults::{CallName, PlannedFault};
 
 /// How a call is to fail.

@@ -4,12 +4,8 @@
 #[cfg(test)]
 mod each_call;
 #[cfg(test)]
-mod failing;
-#[cfg(test)]
 mod kinds;
 #[cfg(test)]
 mod openings;
 #[cfg(test)]
 mod single_calls;
-#[cfg(test)]
-mod watched;

@@ -1,8 +1,8 @@
 //! The opening of what a crash left, with each single call failing.
-use crate::failing::{Failing, expect_right, is_unopened, run_failing};
 use crate::kinds::{Kind, MANY, fault_of};
 use cell_world::outside::World;
 use command_scripts::Line;
+use fault_runs::failing::{Failing, expect_right, is_unopened, run_failing};
 use plain_model::history::Entry;
 use script_runs::fault_scripts::left;
 use script_runs::images::crashed;

@@ -1,6 +1,6 @@
 //! Calls that fail, one by one: what is answered, with which status the run ends, and what is left.
-use crate::failing::{Failing, cut, logged, lost, made, run_again, run_failing};
 use command_scripts::Line;
+use fault_runs::failing::{Failing, cut, logged, lost, made, run_again, run_failing};
 use plain_model::finish::RunStatus;
 use script_runs::images::rows_in;
 use script_runs::runs::{Ran, is, run_from};

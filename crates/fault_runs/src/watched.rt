@@ -11,14 +11,14 @@ use std::alloc::Global;
 
 /// A world, and how often a call of it failed. It does what the world does.
 #[derive(Drop)]
-pub(crate) struct Watched<W: World> {
-    pub(crate) world: W,
-    pub(crate) failed: u32,
+pub struct Watched<W: World> {
+    pub world: W,
+    pub failed: u32,
 }
 
 impl<W: World> Watched<W> {
     /// A world of which no call was made yet.
-    pub(crate) fn new(world: W) -> Watched<W> {
+    pub fn new(world: W) -> Watched<W> {
         Watched { world, failed: 0 }
     }
 

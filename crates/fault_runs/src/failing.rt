@@ -21,14 +21,14 @@ use world_memory::world::MemoryWorld;
 
 /// A run in which calls were to fail.
 #[derive(Drop)]
-pub(crate) struct Failing {
-    pub(crate) ran: Ran,
+pub struct Failing {
+    pub ran: Ran,
     /// How many calls failed.
-    pub(crate) failed: u32,
+    pub failed: u32,
 }
 
 /// The call of this name and number fails. A commit isn't made, and a write writes nothing.
-pub(crate) fn lost(call: CallName, number: u32) -> PlannedFault {
+pub fn lost(call: CallName, number: u32) -> PlannedFault {
     PlannedFault {
         call,
         number,
@@ -38,7 +38,7 @@ pub(crate) fn lost(call: CallName, number: u32) -> PlannedFault {
 }
 
 /// The commit of this number fails, and is made all the same.
-pub(crate) fn made(number: u32) -> PlannedFault {
+pub fn made(number: u32) -> PlannedFault {
     PlannedFault {
         call: CallName::Commit,
         number,
@@ -48,7 +48,7 @@ pub(crate) fn made(number: u32) -> PlannedFault {
 }
 
 /// The write of this number fails once so many bytes are written.
-pub(crate) fn cut(number: u32, prefix: u32) -> PlannedFault {
+pub fn cut(number: u32, prefix: u32) -> PlannedFault {
     PlannedFault {
         call: CallName::Write,
         number,
@@ -80,7 +80,7 @@ fn run_watched(alloc: Global, words: &Vec<String>, world: MemoryWorld, script: V
 }
 
 /// Runs the lines over a world in which these calls fail.
-pub(crate) fn run_failing(
+pub fn run_failing(
     alloc: Global,
     world: MemoryWorld,
     faults: &[PlannedFault],
@@ -93,12 +93,12 @@ pub(crate) fn run_failing(
 }
 
 /// Runs the lines over the world that a run left, in which no call fails.
-pub(crate) fn run_again(alloc: Global, ran: &Ran, lines: &[Line]) -> Result<Ran, Fail> {
+pub fn run_again(alloc: Global, ran: &Ran, lines: &[Line]) -> Result<Ran, Fail> {
     run_after(alloc, &ran.world, ran.moment(), lines)
 }
 
 /// How many operations are logged.
-pub(crate) fn logged(alloc: Global, world: &mut MemoryWorld) -> Result<usize, Fail> {
+pub fn logged(alloc: Global, world: &mut MemoryWorld) -> Result<usize, Fail> {
     let rows = world.scan(alloc, Site::GLOBAL, &CellKey::Log(0), 1000)?;
     Ok(rows.len())
 }
@@ -131,7 +131,7 @@ fn status_of(entries: &[Entry]) -> RunStatus {
 }
 
 /// Whether the stores couldn't be opened.
-pub(crate) fn is_unopened(failing: &Failing) -> bool {
+pub fn is_unopened(failing: &Failing) -> bool {
     failing.ran.status == RunStatus::StoreFault && failing.ran.history.len() == 0
 }
 
@@ -266,7 +266,7 @@ fn is_right(
 }
 
 /// Fails where a run of so many commands isn't as it must be. Its world is what the entries before it left.
-pub(crate) fn expect_right(
+pub fn expect_right(
     alloc: Global,
     before: &[Entry],
     failing: &Failing,
