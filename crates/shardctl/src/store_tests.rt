@@ -31,9 +31,9 @@ fn ends_so(
 }
 
 /// Whether a status is told by this line, and is this exit status.
-fn is_told(alloc: Global, status: RunStatus, number: u8, line: &[u8]) -> bool {
+fn is_told(alloc: Global, status: &RunStatus, number: u8, line: &[u8]) -> bool {
     let mut told: Vec<u8> = Vec::new(alloc);
-    tell(alloc, &status, &mut told) == number && told.as_slice() == line
+    tell(alloc, status, &mut told) == number && told.as_slice() == line
 }
 
 /// An empty folder.
@@ -109,7 +109,7 @@ fn a_row_that_is_no_cell_is_a_store_fault(rt: HostRuntime) -> Result<(), Fail> {
     let line = "--store shardctl_bad_row s/a";
     assert!(rt; ends_so(&rt, line, LIST, RunStatus::StoreFault, b"")?);
     let told = b"shardctl: store fault\n";
-    assert!(rt; is_told(rt.alloc(), RunStatus::StoreFault, 5, told));
+    assert!(rt; is_told(rt.alloc(), &RunStatus::StoreFault, 5, told));
     assert!(rt; asks_nothing(&rt, "shardctl_bad_row", line)?);
     fs::remove_dir_all(&rt, "shardctl_bad_row")?;
     Ok(())
@@ -182,7 +182,7 @@ fn each_reply_is_written_when_its_command_is_done(rt: HostRuntime) -> Result<(),
     let line = "--store shardctl_closed s/a";
     assert!(rt; is_cut(&rt, line, 4, b"ok\no")?);
     let told = b"shardctl: write fault\n";
-    assert!(rt; is_told(rt.alloc(), RunStatus::WriteFault, 4, told));
+    assert!(rt; is_told(rt.alloc(), &RunStatus::WriteFault, 4, told));
     let script = b"shards m\nlist m\n";
     let listed = b"shards 1\ns/a\nmappings 0\n";
     assert!(rt; ends_so(&rt, line, script, RunStatus::Done, listed)?);
@@ -192,9 +192,10 @@ fn each_reply_is_written_when_its_command_is_done(rt: HostRuntime) -> Result<(),
 
 /// Whether a run at `s/a` alone over a folder that names `s/z` ends by this, and tells it.
 fn is_unknown(rt: &HostRuntime, line: &str) -> Result<bool, Fail> {
-    let status = RunStatus::UnknownLocation(location(b"s/z")?);
+    let unknown = location(b"s/z")?;
+    let status = RunStatus::UnknownLocation(unknown);
     let told = b"shardctl: unknown location s/z\n";
-    Ok(ends_so(rt, line, b"unmap m\n", status, b"")? && is_told(rt.alloc(), status, 8, told))
+    Ok(is_told(rt.alloc(), &status, 8, told) && ends_so(rt, line, b"unmap m\n", status, b"")?)
 }
 
 #[test]
