@@ -1,6 +1,11 @@
 //! Runs of scripts over the world in memory, which must end so over `sqlite` in memory too.
 #![tactic(auto)]
 
+ghost use Rattle.std.specs.Prelude.{map};
+ghost use Rattle.std.specs.String.{string_bytes};
+ghost use Rattle.script_lang.specs.CommandLine.{SaysWords, options_built};
+ghost use Rattle.script_lang.specs.declared.programs.Program.TheVariants.{Ctl};
+
 use command_scripts::Line;
 use plain_model::finish::RunStatus;
 use script_lang::command_line::{Words, read_words};
@@ -27,7 +32,9 @@ fn run_over_sqlite(
     words: &Vec<String>,
     says: &Words,
     script: &[u8],
-) -> Result<Ended, Fail> {
+) -> Result<Ended, Fail>
+    requires says { SaysWords Ctl options_built (map string_bytes words.now.items) says.now }
+{
     let out: Vec<u8> = Vec::new(alloc);
     let world = SqliteWorld::in_memory(alloc, out, says.locations.as_slice())?;
     let mut source = MemorySource::new(script.to_vec(alloc)?);
