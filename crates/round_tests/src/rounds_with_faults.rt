@@ -87,13 +87,13 @@ fn is_right(alloc: Global, over: &Over) -> Result<bool, Fail> {
 #[test]
 fn whichever_commit_fails_the_plain_map_agrees(rt: HostRuntime) -> Result<(), Fail> {
     let alloc = rt.alloc();
-    let mut faults = 0;
+    let mut faults: usize = 0;
     for number in 1..=24 {
         for made in [false, true] {
             let over = take_turns(alloc, 30, number, &[commit(number, made)])?;
             assert!(rt; faults_in(over.history.as_slice()) < 2, "commit {number}");
             assert!(rt; is_right(alloc, &over)?, "commit {number}, made: {made}");
-            faults += faults_in(over.history.as_slice());
+            faults = faults.saturating_add(faults_in(over.history.as_slice()));
         }
     }
     assert!(rt; faults > 10, "only {faults}");
@@ -103,7 +103,7 @@ fn whichever_commit_fails_the_plain_map_agrees(rt: HostRuntime) -> Result<(), Fa
 #[test]
 fn whichever_two_commits_fail_the_plain_map_agrees(rt: HostRuntime) -> Result<(), Fail> {
     let alloc = rt.alloc();
-    let mut faults = 0;
+    let mut faults: usize = 0;
     for number in 1..=12 {
         for more in 1..=3 {
             let fails = [
@@ -115,7 +115,7 @@ fn whichever_two_commits_fail_the_plain_map_agrees(rt: HostRuntime) -> Result<()
                 is_right(alloc, &over)?,
                 "commits {number} and {more} later"
             );
-            faults += faults_in(over.history.as_slice());
+            faults = faults.saturating_add(faults_in(over.history.as_slice()));
         }
     }
     assert!(rt; faults > 10, "only {faults}");
