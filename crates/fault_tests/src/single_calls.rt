@@ -58,6 +58,14 @@ fn logged_after(alloc: Global, ran: Ran) -> Result<usize, Fail> {
     logged(alloc, &mut world)
 }
 
+/// How many operations stand in its log, and how many local rows at `s/a`.
+fn left_after(alloc: Global, ran: Ran) -> Result<(usize, usize), Fail> {
+    let mut world = ran.world;
+    let operations = logged(alloc, &mut world)?;
+    let rows = rows_in(alloc, &mut world, b"s/a")?;
+    Ok((operations, rows))
+}
+
 // ---- an operation that was abandoned
 
 /// The fourth commit is that of the row at the shard: the log row stands.
@@ -107,14 +115,10 @@ fn a_row_of_an_abandoned_operation_is_undone(rt: HostRuntime) -> Result<(), Fail
         ("unshard m s/a", "ok"),
         ("unmap m", "ok"),
     ];
-    let failing = run_faulted(alloc, &[made(4)], &lines[..4])?;
-    let mut world = failing.ran.world;
-    assert_eq!(rt; logged(alloc, &mut world)?, 1);
-    assert_eq!(rt; rows_in(alloc, &mut world, b"s/a")?, 1);
-    let failing = run_faulted(alloc, &[made(4)], &lines)?;
-    let mut world = failing.ran.world;
-    assert_eq!(rt; logged(alloc, &mut world)?, 0);
-    assert_eq!(rt; rows_in(alloc, &mut world, b"s/a")?, 0);
+    let before = run_faulted(alloc, &[made(4)], &lines[..4])?;
+    assert_eq!(rt; left_after(alloc, before.ran)?, (1, 1));
+    let after = run_faulted(alloc, &[made(4)], &lines)?;
+    assert_eq!(rt; left_after(alloc, after.ran)?, (0, 0));
     Ok(())
 }
 
