@@ -1,0 +1,7 @@
+pub mod ByConnections
+pub mod EndedLaws
+pub mod ExchangedOwners
+pub mod OperationCommits
+pub mod RowOwner
+pub mod SameStates
+pub mod ShortLaws

@@ -1,0 +1,8 @@
+//! Laws of connections: what commands and commits leave of those that are live. There is no code here, so there are no edits.
+#![tactic(auto)]
+
+pub mod commits;
+pub mod ending;
+pub mod rows;
+pub mod shorts;
+pub mod states;

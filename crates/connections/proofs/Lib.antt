@@ -1,0 +1,3 @@
+pub mod OwnedLaws
+pub mod SessionLaws
+pub mod TableLaws
