@@ -102,7 +102,7 @@ while :; do
     rt try --test --fail-alloc "$number" > "$work/said" 2>&1 || true
     if grep -q '^test refused::memory_is_refused ... ok$' "$work/said"; then break; fi
     # a test that fails was refused memory, and was right; one that stops was wrong
-    grep -q 'refused memory"\?$\|out of memory$\|error: Memory$' "$work/said" || { echo "refused_memory: allocation $number:" >&2; cat "$work/said" >&2; exit 1; }
+    grep -q 'the test failed: its result gives status 1$' "$work/said" || { echo "refused_memory: allocation $number:" >&2; cat "$work/said" >&2; exit 1; }
     tried=$((tried + 1))
     number=$((number + step))
 done
