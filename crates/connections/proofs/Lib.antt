@@ -1,3 +1,5 @@
+pub mod EachTable
+pub mod EndedInTurn
 pub mod OwnedLaws
 pub mod SessionLaws
 pub mod TableLaws

@@ -7,6 +7,7 @@ use Rattle.cell_world.specs.declared.operations.Piece.{Piece}
 use Rattle.plain_model.specs.Steps.{ended_under, ended_where, with_connection}
 use Rattle.connections.specs.Links.{connection_at, ended_if, is_under, of_sessions, with_number, with_table}
 use Rattle.connections.specs.declared.links.Link.{Link}
+use Rattle.connections.proofs.EndedInTurn.{choice_of_false}
 
 -- ---- one table among all
 
@@ -17,11 +18,7 @@ of_session [] i (suc number) = refl
 of_session (places ∷ tables) zero number = refl
 of_session (places ∷ tables) (suc i) number = of_session tables i number
 
-choice_of_false : (b : Bool) (x y : Option Connection) → b ≡ false → y ≡ (if b then x else y)
-choice_of_false true x y h = cc
-choice_of_false false x y h = refl
-
-got-set : (tables : List (List (Option Link))) (i j : ℕ) (places : List (Option Link)) (number : ℕ) → i < length tables → connection_at (get_or (set tables i places) j []) number ≡ (if j == i then connection_at places number else connection_at (get_or tables j []) number)
+pub got-set : (tables : List (List (Option Link))) (i j : ℕ) (places : List (Option Link)) (number : ℕ) → i < length tables → connection_at (get_or (set tables i places) j []) number ≡ (if j == i then connection_at places number else connection_at (get_or tables j []) number)
 got-set [] i j places number h = absurd (grind arith)
 got-set (first ∷ tables) zero zero places number h = refl
 got-set (first ∷ tables) zero (suc j) places number h = choice_of_false (suc j == zero) (connection_at places number) (connection_at (get_or tables j []) number) (eqb-suc-zero j)

@@ -1,11 +1,12 @@
 -- What a table of connections answers after a change of its places.
-use Rattle.std.proofs.Common.{◌≡◌, ◌≢◌, ℕ, zero, suc, ◌+◌, ◌-◌, ◌<◌, ◌≤◌, inl, inr, Bool, true, false, ◌==◌, nat_lt, if◌then◌else◌, List, [], ◌∷◌, length, set, get_or, replicate, is_none, refl, ap, sym, ◌∙◌, Option, Some, None, option_map, option_and_then, slice_get, arith}
+use Rattle.std.proofs.Common.{◌≡◌, ℕ, zero, suc, ◌+◌, ◌-◌, ◌<◌, ◌≤◌, Bool, true, false, ◌==◌, nat_lt, if◌then◌else◌, List, [], ◌∷◌, length, set, get_or, replicate, is_none, refl, ap, sym, ◌∙◌, Option, Some, None, option_map, option_and_then, slice_get, arith}
 use Rattle.std.proofs.lemmas.Option.{slice_get_read, slice_get_past}
-use Rattle.std.proofs.lemmas.Bool.Decides.{eqb_tells, nat_tests}
+use Rattle.std.proofs.lemmas.Bool.Decides.{nat_tests}
 use Rattle.std.proofs.Math.Dec.{eqb-suc-suc, eqb-suc-zero, eqb-zero-suc}
 use Rattle.cell_world.specs.Plain.{Connection}
 use Rattle.connections.specs.Links.{connection, connection_at, ended_if, with_number}
 use Rattle.connections.specs.declared.links.Link.{Link}
+use Rattle.connections.proofs.EndedInTurn.{EndedUpTo, one_more_ended, all_ended}
 
 -- ---- a place by its index
 
@@ -79,55 +80,14 @@ no_places k (suc n) = none_get k n
 
 -- the connections of the places before an index are ended where the test finds them, and the others are as they were
 abbrev pub EndedBefore : (Connection → Bool) → ℕ → List (Option Link) → List (Option Link) → Type 0
-EndedBefore test i old new = (k : ℕ) → connection_at new (suc k) ≡ (if nat_lt k i then ended_if test (connection_at old (suc k)) else connection_at old (suc k))
+EndedBefore test i old new = EndedUpTo test i (λ k. connection_at old (suc k)) (λ k. connection_at new (suc k))
 
-choice_of_false : (b : Bool) (x y : Option Connection) → b ≡ false → y ≡ (if b then x else y)
-choice_of_false true x y h = cc
-choice_of_false false x y h = refl
+pub one_more_place : (test : Connection → Bool) (i : ℕ) (old new : List (Option Link)) (x y : Option Link) → i < length new → x ≡ get_or new i x → option_map connection y ≡ ended_if test (option_map connection (get_or new i x)) → EndedBefore test i old new → EndedBefore test (i + 1) old (set new i y)
+one_more_place test i old new x y within read ended =
+    one_more_ended test i (λ k. connection_at old (suc k)) (λ k. connection_at new (suc k)) (λ k. connection_at (set new i y) (suc k)) (option_map connection y)
+    (λ k. set_at new i y within (suc k) ∙ ap (λ b. if b then option_map connection y else connection_at new (suc k)) (eqb-suc-suc k i))
+    (ended ∙ ap (ended_if test) (ap (option_map connection) (sym read) ∙ ap (option_and_then (option_map connection)) (sym (slice_get_read new (length new) i x refl within read))))
 
-choice_of_true : (b : Bool) (x y : Option Connection) → b ≡ true → x ≡ (if b then x else y)
-choice_of_true true x y h = refl
-choice_of_true false x y h = cc
-
-pub none_ended : (test : Connection → Bool) (old : List (Option Link)) → EndedBefore test 0 old old
-none_ended test old k = choice_of_false (nat_lt k 0) (ended_if test (connection_at old (suc k))) (connection_at old (suc k)) (grind (arith, nat_tests))
-
-pub one_more_ended : (test : Connection → Bool) (i : ℕ) (old new : List (Option Link)) (x y : Option Link) → i < length new → x ≡ get_or new i x → option_map connection y ≡ ended_if test (option_map connection (get_or new i x)) → EndedBefore test i old new → EndedBefore test (i + 1) old (set new i y)
-one_more_ended test i old new x y within read ended before k = elim (eqb_tells k i) [ inl e ↦ here k e.0 e.1 | inr e ↦ others k e.0 e.1 ]
-  where
-    stood : option_map connection x ≡ connection_at old (suc i)
-    stood =
-        ap (option_and_then (option_map connection)) (sym (slice_get_read new (length new) i x refl within read))
-        ∙ before i
-        ∙ sym (choice_of_false (nat_lt i i) (ended_if test (connection_at old (suc i))) (connection_at old (suc i)) (grind (arith, nat_tests)))
-
-    set_here : (k : ℕ) → connection_at (set new i y) (suc k) ≡ (if k == i then option_map connection y else connection_at new (suc k))
-    set_here k = set_at new i y within (suc k) ∙ ap (λ b. if b then option_map connection y else connection_at new (suc k)) (eqb-suc-suc k i)
-
-    here : (k : ℕ) → (k == i) ≡ true → k ≡ i → connection_at (set new i y) (suc k) ≡ (if nat_lt k (i + 1) then ended_if test (connection_at old (suc k)) else connection_at old (suc k))
-    here k t e =
-        set_here k
-        ∙ sym (choice_of_true (k == i) (option_map connection y) (connection_at new (suc k)) t)
-        ∙ ended
-        ∙ ap (ended_if test) (ap (option_map connection) (sym read) ∙ stood ∙ ap (λ j. connection_at old (suc j)) (sym e))
-        ∙ choice_of_true (nat_lt k (i + 1)) (ended_if test (connection_at old (suc k))) (connection_at old (suc k)) (grind (arith, nat_tests))
-
-    same_side : (k : ℕ) → k ≢ i → nat_lt k i ≡ nat_lt k (i + 1)
-    same_side k e = grind (arith, nat_tests)
-
-    others : (k : ℕ) → (k == i) ≡ false → k ≢ i → connection_at (set new i y) (suc k) ≡ (if nat_lt k (i + 1) then ended_if test (connection_at old (suc k)) else connection_at old (suc k))
-    others k f e =
-        set_here k
-        ∙ sym (choice_of_false (k == i) (option_map connection y) (connection_at new (suc k)) f)
-        ∙ before k
-        ∙ ap (λ b. if b then ended_if test (connection_at old (suc k)) else connection_at old (suc k)) (same_side k e)
-
-pub all_ended : (test : Connection → Bool) (i : ℕ) (old new : List (Option Link)) → length old ≤ i → EndedBefore test i old new → (number : ℕ) → connection_at new number ≡ ended_if test (connection_at old number)
-all_ended test i old new most before zero = refl
-all_ended test i old new most before (suc k) = before k ∙ of (nat_lt k i) refl
-  where
-    of : (b : Bool) → nat_lt k i ≡ b → (if b then ended_if test (connection_at old (suc k)) else connection_at old (suc k)) ≡ ended_if test (connection_at old (suc k))
-    of true h = refl
-    of false h =
-        let none : connection_at old (suc k) ≡ None = past_places old (suc k) (grind (arith, nat_tests)) in
-        none ∙ sym (ap (ended_if test) none)
+pub all_places : (test : Connection → Bool) (i : ℕ) (old new : List (Option Link)) → length old ≤ i → EndedBefore test i old new → (number : ℕ) → connection_at new number ≡ ended_if test (connection_at old number)
+all_places test i old new most before zero = refl
+all_places test i old new most before (suc k) = all_ended test i (λ k. connection_at old (suc k)) (λ k. connection_at new (suc k)) (λ k past. past_places old (suc k) (omega arith)) before k

@@ -1,5 +1,6 @@
-//! The connections of a session to the rows under keys.
+//! The connections of sessions to the rows under keys.
 #![tactic(auto)]
 
 pub mod links;
+pub mod sessions;
 pub mod table;
