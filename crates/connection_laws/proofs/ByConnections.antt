@@ -1,5 +1,5 @@
 -- Commands that open a connection, close one, or go by one.
-use Rattle.std.proofs.Common.{◌≡◌, ℕ, Bool, true, false, refl, sym, ap, ◌∙◌, subst, Some, None, Option, option_and_then}
+use Rattle.std.proofs.Common.{◌≡◌, ℕ, true, false, refl, sym, ap, ◌∙◌, subst, Some, None, Option, option_and_then}
 use Rattle.std.proofs.lemmas.Option.{same_Some}
 use Rattle.std.specs.FinMap as map
 use Rattle.cell_world.specs.Texts.{Text}
@@ -76,7 +76,7 @@ module _ (s : PlainState) (connections : Connections) (all : AreOwned s connecti
   done_owned held session (command.Del number table id) by_it e = all_same s (accepted held A session (command.Del number table id)).0 refl refl refl connections all
   done_owned held session c by_it e = absurd cc
 
-  stepped_owned : (held : Held) (session : ℕ) (c : Command) → is_by_connection c ≡ true → AreOwned (plain_step held A session c).0 (plain_step held A session c).0.connections
+  pub stepped_owned : (held : Held) (session : ℕ) (c : Command) → is_by_connection c ≡ true → AreOwned (plain_step held A session c).0 (plain_step held A session c).0.connections
   stepped_owned held session c by_it = by (refusal A session c) refl
     where
       by : (r : Option Refusal) → refusal A session c ≡ r → AreOwned (refused_or_done held A session c r).0 (refused_or_done held A session c r).0.connections

@@ -1,7 +1,10 @@
 pub mod ByConnections
 pub mod EndedLaws
+pub mod EntryChanges
+pub mod EntryLaws
 pub mod ExchangedOwners
 pub mod OperationCommits
+pub mod OperationEntries
 pub mod RowOwner
 pub mod SameStates
 pub mod ShortLaws

@@ -1,5 +1,5 @@
 -- The commit of a command that is one operation: no online mapping becomes an offline one but that of `offline`, whose connections are ended.
-use Rattle.std.proofs.Common.{◌≡◌, ℕ, Bool, false, refl, sym, ap, ◌∙◌, subst, Some, None, Option, List, [], ◌∷◌, true≢false}
+use Rattle.std.proofs.Common.{◌≡◌, Bool, false, refl, sym, ap, ◌∙◌, subst, Some, None, Option, [], ◌∷◌, true≢false}
 use Rattle.std.specs.Prelude.{IsTrue, ◌&&◌}
 use Rattle.std.proofs.lemmas.Bool.{and_from}
 use Rattle.cell_world.specs.Texts.{Text}
@@ -30,7 +30,6 @@ use Rattle.plain_model.specs.Steps.{Exchange, exchange_of, exchange_by, becomes,
 use Rattle.connections.specs.Links.{AreOwned}
 use Rattle.operation_laws.specs.Entries.{IsOneOperation}
 use Rattle.operation_laws.specs.Opening.{ends_with}
-use Rattle.connection_laws.specs.Keeping.{StaysOnline}
 use Rattle.connection_laws.proofs.EndedLaws.{still_live, ended_owned}
 use Rattle.connection_laws.proofs.ExchangedOwners.{all_committed}
 

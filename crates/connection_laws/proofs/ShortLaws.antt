@@ -1,6 +1,6 @@
 -- A short command of maps and mappings takes no owner from a connection: a map that stands isn't made again, one with a mapping isn't unmapped, and another token is all that a mapping gets.
-use Rattle.std.proofs.Common.{◌≡◌, inl, inr, ℕ, Bool, true, false, not, cond, refl, sym, ap, ◌∙◌, subst, Some, None, Option, is_some, List, [], ◌∷◌, true≢false}
-use Rattle.std.specs.Prelude.{option_and_then, find, IsTrue}
+use Rattle.std.proofs.Common.{◌≡◌, inl, inr, ℕ, Bool, true, false, cond, refl, sym, ap, ◌∙◌, Some, None, Option, is_some, List, [], ◌∷◌, true≢false}
+use Rattle.std.specs.Prelude.{option_and_then, find}
 use Rattle.std.specs.FinMap as map
 use Rattle.std.specs.List.{list_any}
 use Rattle.std.proofs.lemmas.Cmp.{nat_list_cmp_total}
@@ -35,9 +35,9 @@ use Rattle.plain_model.specs.declared.replies.Reply.{Reply}
 use Rattle.plain_model.specs.declared.replies.Refusal.{Refusal}
 use Rattle.plain_model.specs.Refusing.{Check, checks, first_refusal, refusal, mapping_of, key_in}
 use Rattle.plain_model.specs.ShortCommands.{is_short}
-use Rattle.plain_model.specs.Steps.{plain_step, accepted, refused_or_done, exchanging, becomes, with_mapping, with_token}
+use Rattle.plain_model.specs.Steps.{plain_step, accepted, refused_or_done, exchanging, with_mapping, with_token}
 use Rattle.connections.specs.Links.{IsOwned, AreOwned}
-use Rattle.connection_laws.specs.Keeping.{AreOnShards, StaysOnline}
+use Rattle.connection_laws.specs.Keeping.{AreOnShards}
 use Rattle.connection_laws.proofs.SameStates.{all_same}
 use Rattle.connection_laws.proofs.ExchangedOwners.{exchanged_owned}
 
@@ -65,9 +65,10 @@ accepted_by s session c e = none_holds (checks s session c) e
 
 -- ---- the commands one by one
 
-module _ (s : PlainState) (on : AreOnShards s) (connections : Connections) (all : AreOwned s connections) where
+-- whoever is connected in the state: it turns on no connection
+module _ (s : PlainState) (on : AreOnShards s) (before connections : Connections) (all : AreOwned s connections) where
   abbrev A : PlainState
-  A = with_connections s connections
+  A = with_connections s before
 
   -- where the maps of connections stay, so do their owners
   maps_owned : (maps : Maps) → ((c : Connection) → IsOwned s c → map.get maps c.map ≡ map.get s.maps c.map) → AreOwned (record s { maps = maps }) connections
@@ -146,7 +147,7 @@ module _ (s : PlainState) (on : AreOnShards s) (connections : Connections) (all 
   accepted_owned held session (command.Shards name) short e = all_same s A refl refl refl connections all
   accepted_owned held session c short e = absurd cc
 
-  stepped_owned : (held : Held) (session : ℕ) (c : Command) → is_short c ≡ true → AreOwned (plain_step held A session c).0 connections
+  pub stepped_owned : (held : Held) (session : ℕ) (c : Command) → is_short c ≡ true → AreOwned (plain_step held A session c).0 connections
   stepped_owned held session c short = by (refusal A session c) refl
     where
       by : (r : Option Refusal) → refusal A session c ≡ r → AreOwned (refused_or_done held A session c r).0 connections
@@ -159,4 +160,4 @@ pub short_owned : (s : PlainState) → AreOnShards s → (connections : Connecti
 short_owned s on connections all held session c short t r step =
     all_same (plain_step held (with_connections s connections) session c).0 t
     (ap (λ (x : PlainState × Reply). x.0.maps) (sym step)) (ap (λ (x : PlainState × Reply). x.0.mappings) (sym step)) (ap (λ (x : PlainState × Reply). x.0.away) (sym step))
-    connections (stepped_owned s on connections all held session c short)
+    connections (stepped_owned s on connections connections all held session c short)

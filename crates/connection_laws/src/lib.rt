@@ -3,6 +3,7 @@
 
 pub mod commits;
 pub mod ending;
+pub mod entries;
 pub mod rows;
 pub mod shorts;
 pub mod states;
