@@ -1,0 +1,4 @@
+pub mod AloneLaws
+pub mod CommitLeads
+pub mod EntryLaws
+pub mod QuietLeads
