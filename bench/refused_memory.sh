@@ -106,4 +106,4 @@ while :; do
     tried=$((tried + 1))
     number=$((number + step))
 done
-echo "refused_memory: $tried runs that were refused memory, each as it must be; all allocations are before number $number"
+echo "refused_memory: $tried numbers were tried, none of which ended as it must not; all allocations, with those of the set-up and of the new run, are before number $number"

@@ -14,7 +14,7 @@ may_be_done (Some reply.Ok) = true
 may_be_done (Some reply.Fault) = true
 may_be_done other = false
 
--- An `offline` that may have been done has ended the connections under its mapping. No other command of one operation ends any.
+-- An `offline` that may have been done ends the connections under this mapping. (At a fault before its log row was tried none need have ended: then no mapping is given.) No other command of one operation ends any.
 abbrev pub left_by : Command → Option Reply → Option Piece → Connections → Connections
 left_by (command.Offline name key token) answer piece connections = if may_be_done answer then ended_under piece connections else connections
 left_by other answer piece connections = connections

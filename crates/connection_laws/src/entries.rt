@@ -1,4 +1,4 @@
-//! What entries leave of connections. Each law is the contract of a function that does nothing. It is said of the states that the entry follows by, whoever is connected in them, and of any connections beside.
+//! What entries leave of connections. Each law is the contract of a function that does nothing. An entry is taken by the states that it follows by, whoever is connected in them; where any other connections are meant, the law says so.
 ghost use Rattle.std.specs.Prelude.{◌≡◌, ℕ, true, false, Option, Some, None};
 ghost use Rattle.cell_world.specs.Texts.{Text};
 ghost use Rattle.cell_world.specs.Images.{Image};
@@ -28,25 +28,25 @@ ghost use Rattle.connections.specs.Links.{AreOwned};
 ghost use Rattle.connection_laws.specs.Keeping.{AreOnShards, is_by_connection};
 ghost use Rattle.connection_laws.specs.Leaving.{may_be_done, left_by};
 
-/// The entry of a short command, whatever its answer, leaves connections owned, and connects nobody and ends no connection. Mappings are on shards in what a sound image stands for.
+/// The entry of a short command, whatever its answer, leaves connections owned, and connects nobody and ends no connection. That mappings are on shards is asked; it is so in what a sound image stands for.
 pub fn short_entries_keep_connections()
     ensures kept { (past : Past) (A B : PlainState) (before after : Connections) (e : Entry) (answer : Option Reply) → is_short e.command ≡ true → Follows past (with_connections A before) e (with_connections B after) answer →
         AreOnShards A → (connections : Connections) → AreOwned A connections → AreOwned B connections }
     ensures connects { (past : Past) (A B : PlainState) (before after : Connections) (e : Entry) (answer : Option Reply) → is_short e.command ≡ true → Follows past (with_connections A before) e (with_connections B after) answer → after ≡ before }
 {}
 
-/// The entry of `open`, `close`, `put`, `get` or `del`, whatever its answer: those are owned who are connected after it, if those were who were connected before.
+/// The entry of `open`, `close`, `put`, `get` or `del`, whatever its answer: the connections after it are owned if those before it were.
 pub fn connection_entries_keep_connections()
     ensures { (past : Past) (A B : PlainState) (before after : Connections) (e : Entry) (answer : Option Reply) → is_by_connection e.command ≡ true → Follows past (with_connections A before) e (with_connections B after) answer →
         AreOwned A before → AreOwned B after }
 {}
 
-/// The entry of a command of one operation, whatever its answer: those are owned who are left. The stores before it admit the operation, and it is the command's; that is so of a live operation, which stands, and of one that was planned, whatever was tried of it. A faulted `offline` leaves those whom it ends, whether it was committed or not.
+/// The entry of a command of one operation, whatever its answer: the connections that are left are owned. The stores before it admit the operation, and it is the command's; that is so of a live operation, which stands, and of one that was planned. An `offline` that faulted once its log row was tried has ended those under its mapping, whether it was committed or not; before that it may have ended none, and `connected` speaks of those that the entry itself leaves.
 pub fn operation_entries_keep_connections()
     ensures own { (image : Image) → Sound image → (op : Op) → Lawful image op → (past : Past) (later : Image) (before after : Connections) (e : Entry) (answer : Option Reply) → IsOneOperation e.command →
         IsOwnOf (with_connections (meaning image) before) e.command None image op → Follows past (with_connections (meaning image) before) e (with_connections (meaning later) after) answer →
         (connections : Connections) → AreOwned (meaning image) connections → AreOwned (meaning later) (left_by e.command answer op.olds.one connections) }
-    ensures connects { (image : Image) → Sound image → (op : Op) → Lawful image op → (past : Past) (later : Image) (before after : Connections) (e : Entry) (answer : Option Reply) → IsOneOperation e.command →
+    ensures connected { (image : Image) → Sound image → (op : Op) → Lawful image op → (past : Past) (later : Image) (before after : Connections) (e : Entry) (answer : Option Reply) → IsOneOperation e.command →
         IsOwnOf (with_connections (meaning image) before) e.command None image op → Follows past (with_connections (meaning image) before) e (with_connections (meaning later) after) answer →
         AreOwned (meaning image) before → AreOwned (meaning later) after }
     ensures standing { (image : Image) → Sound image → (session : ℕ) (l : Live) → Stands Needs session l image → (past : Past) (later : Image) (before after : Connections) (e : Entry) (answer : Option Reply) → e.command ≡ l.command →
@@ -57,13 +57,13 @@ pub fn operation_entries_keep_connections()
         (connections : Connections) → AreOwned (meaning image) connections → AreOwned (meaning later) (left_by e.command answer op.olds.one connections) }
 {}
 
-/// The mapping under which `offline` ends connections, which its words name, is the first that its operation replaces. So those who are left where a command of one operation may have been done are those whom its plain step leaves.
+/// The mapping under which `offline` ends connections, which its words name, is the first that its operation replaces. So the connections that are left where a command of one operation may have been done are those that its plain step leaves.
 pub fn offline_takes_the_first_old()
     ensures first { (image : Image) (op : Op) → Lawful image op → (A : PlainState) (name key : Text) (token : Option Token) → IsOwnOf A (command.Offline name key token) None image op → op.olds.one ≡ mapping_of A name key }
     ensures left { (image : Image) (op : Op) → Lawful image op → (A : PlainState) (c : Command) → IsOwnOf A c None image op → (answer : Option Reply) → may_be_done answer ≡ true → ends_with A c ≡ left_by c answer op.olds.one A.connections }
 {}
 
-/// Without an operation at hand: a command of one operation that is answered neither `ok` nor `fault` leaves connections owned, and so does any entry where the stores stand for what they stood for, whoever is left.
+/// Without an operation at hand: a command of one operation that is answered neither `ok` nor `fault` leaves connections owned; and where the stores stand for what they stood for, those that `left_by` leaves are owned, whatever mapping is given, or none.
 pub fn entries_without_an_operation_keep_connections()
     ensures not_done { (past : Past) (A B : PlainState) (before after : Connections) (e : Entry) (answer : Option Reply) → IsOneOperation e.command → may_be_done answer ≡ false →
         Follows past (with_connections A before) e (with_connections B after) answer → (connections : Connections) → AreOwned A connections → AreOwned B connections }

@@ -1,4 +1,4 @@
-//! Laws of connections: what commands and commits leave of those that are live. There is no code here, so there are no edits.
+//! Laws of connections: what commands, commits and entries leave of those that are live. There is no code here, so there are no edits.
 #![tactic(auto)]
 
 pub mod commits;

@@ -30,5 +30,5 @@ pub record RowCommits (before : AllDoing) (session : ℕ) (c : Command) (connect
   pub sound : Sound (after_one image (commit_at location change took))
   -- the live operations of all sessions stand
   pub stand : AllStand Needs before (after_one image (commit_at location change took))
-  -- and the entry follows, whoever is connected still being so
+  -- and the entry follows, with the same connections
   pub follows : FollowsShort session c (standing_with image connected) (standing_with (after_one image (commit_at location change took)) connected) r

@@ -28,21 +28,21 @@ ghost use Rattle.row_laws.specs.Commits.{RowCommits};
 ghost use Rattle.row_laws.specs.Replies.{is_row_answer, is_row_reply};
 ghost use Rattle.row_laws.specs.Seeing.{answered_with, seen_of};
 
-/// It is answered and nothing happened: `open`, `close` and `get`, a refusal, want of memory, and a fault before anything was tried. Who is connected afterwards may be others.
+/// A command by a connection is answered and nothing happened: `open`, `close` and `get`, a refusal, want of memory, and a fault before anything was tried. Who is connected afterwards may be others.
 pub fn quiet_entries_lead()
     ensures { (session : ℕ) (c : Command) → is_by_connection c ≡ true → (r : Reply) → is_row_reply r ≡ true → (before : AllDoing) (left : Option Op) → before session ≡ Resting left → (connected still : Connections) (old new : Told) → new ≡ old →
         IfContents old (λ image. Sound image → AllStand Needs before image → FollowsShort session c (standing_with image connected) (standing_with image still) r) → (moment : ℕ) → IfTrail new (λ trail. moment ≡ end_of_trail trail) →
         (mode : Mode) (history : List Entry) → Leads mode old new (seen_of history before connected) (answered_with (seen_of history before connected) (short_entry session c r moment) before still) (text_of mode (short_entry session c r moment)) }
 {}
 
-/// It is answered just after its one transaction, at its connection's shard: `put` and `del` that are done, and a fault in which the transaction was made or not.
+/// A command by a connection is answered just after its one transaction, at its connection's shard: `put` and `del` that are done, and a fault in which the transaction was made or not.
 pub fn row_commits_lead()
     ensures { (session : ℕ) (c : Command) → is_by_connection c ≡ true → (r : Reply) → is_row_reply r ≡ true → (before : AllDoing) (left : Option Op) → before session ≡ Resting left → (connected : Connections) (location : Text) (change : List Edit) (took : Bool) → logs_put change ≡ [] →
         (old new : Told) → new ≡ told_after old (commit_at location change took) → IfContents old (λ image. Sound image → AllStand Needs before image → RowCommits before session c connected location change took r image) → (moment : ℕ) → IfTrail new (λ trail. moment ≡ end_of_trail trail) →
         (mode : Mode) (history : List Entry) → Leads mode old new (seen_of history before connected) (answered_with (seen_of history before connected) (short_entry session c r moment) before connected) (text_of mode (short_entry session c r moment)) }
 {}
 
-/// What such a transaction is asked of has it where it is a short change that reaches nothing, and the plain step's: made, with the plain step's answer; and at a fault, made or not.
+/// What is asked of such a transaction (`RowCommits`) holds where it is a short change that reaches nothing and makes what the plain step makes: made, with the plain step's answer; and at a fault, made or not.
 pub fn short_changes_are_row_commits()
     ensures done { (before : AllDoing) (session : ℕ) (c : Command) → is_by_connection c ≡ true → (connected : Connections) (location : Text) (change : List Edit) (image : Image) → Sound image → AllStand Needs before image → IsAttachedIn image location →
         Sound (changed_at image location change) → ShortChange image reach.Nothing (changed_at image location change) → (r : Reply) → is_row_answer r ≡ true →

@@ -38,7 +38,7 @@ pub fn rows_leave_the_global_store()
     ensures logs { (change : List Edit) → IsRowChange change → logs_put change ≡ [] }
 {}
 
-/// A transaction at a shard that puts or deletes one row cell, made or not, leaves the local rows of each site, and all on which it depends how far an operation has come; no other site is attached after it. What sessions have to settle stays committed, and what is settled stays so, at each site and in the log.
+/// A transaction at a shard that puts or deletes one row cell, made or not, leaves the local rows of each site, and all on which it depends how far an operation has come; no site is attached after it that wasn't before. What sessions have to settle stays committed, and what is settled stays so, at each site and in the log.
 pub fn rows_leave_operations_alone()
     ensures locals { (image : Image) (location : Text) (change : List Edit) → IsRowChange change → (took : Bool) (site : Text) → locals_at (after_one image (commit_at location change took)) site ≡ locals_at image site }
     ensures tables { (image : Image) (location : Text) (change : List Edit) → IsRowChange change → (took : Bool) → mark_tables (after_one image (commit_at location change took)) ≡ mark_tables image }

@@ -5,8 +5,8 @@ use Rattle.connection_laws.proofs.entries.operation_entries_keep_connections.Goa
 pub returns-clause-own : goal.returns-clause-own
 returns-clause-own c = operation_entry_owned
 
-pub returns-clause-connects : goal.returns-clause-connects
-returns-clause-connects c = operation_entry_connects
+pub returns-clause-connected : goal.returns-clause-connected
+returns-clause-connected c = operation_entry_connects
 
 pub returns-clause-standing : goal.returns-clause-standing
 returns-clause-standing c = standing_entry_owned Needs
